@@ -2,5 +2,4 @@
 pub mod Rows
 pub mod Steps
 pub mod Kept
-pub mod Placing
 pub mod Lookups

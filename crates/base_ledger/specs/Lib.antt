@@ -1,4 +1,4 @@
--- Definitions of base_ledger: changes, the rows that they give, and the parts of an index.
+-- Definitions of base_ledger: changes, the rows that they give, and the tables of an index.
 pub mod Change
+pub mod Index
 pub mod Ledger
-pub mod Parts

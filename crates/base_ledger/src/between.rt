@@ -12,11 +12,3 @@ pub fn changes_between<'a>(changes: &'a [Change], starts: &[usize], step: usize)
 {
     &changes[starts[step]..starts[step + 1]]
 }
-
-/// The numbers of one of the parts that begin at the bounds.
-pub fn numbers_between<'a>(numbers: &'a [u32], parts: &[usize], position: usize) -> &'a [u32]
-    requires { AreBoundsAt (length numbers.now) parts.now position }
-    ensures { result.now ≡ part_between numbers.now parts.now position }
-{
-    &numbers[parts[position]..parts[position + 1]]
-}

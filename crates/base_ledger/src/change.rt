@@ -3,6 +3,8 @@
 ghost use Rattle.std.specs.Prelude.{◌≡◌, ℕ, ◌<◌, ◌^◌};
 ghost use Rattle.base_ledger.specs.Change.{packed_change, change_payload, change_position};
 
+use base_sort::Keyed;
+
 /// A position and a payload in four bytes: the payload in the low one.
 #[derive(Clone, Copy, Debug, PartialEq, Eq)]
 pub struct Change {
@@ -31,5 +33,13 @@ impl Change {
         ensures { result ≡ change_payload self.now }
     {
         (self.word % 256) as u8
+    }
+}
+
+impl Keyed for Change {
+    ghost key = { change_position };
+
+    fn key(&self) -> usize {
+        self.position()
     }
 }

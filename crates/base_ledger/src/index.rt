@@ -1,13 +1,13 @@
 //! A finished ledger, with its changes by position.
 
-ghost use Rattle.std.specs.Prelude.{◌≡◌, ℕ, ◌-◌, ◌<◌, ◌≤◌, ◌^◌, IfOk, length, replicate, slice_index};
+ghost use Rattle.std.specs.Prelude.{◌≡◌, ℕ, ◌-◌, ◌<◌, ◌≤◌, ◌^◌, IfOk, length, slice_index};
 ghost use Rattle.base_ledger.specs.Change.{AreInWidth};
 ghost use Rattle.base_ledger.specs.Ledger.{AreBounds, logged_steps, RowFollows, step_changes, step_row, steps_between};
-ghost use Rattle.base_ledger.specs.Parts.{AreCountsOf, AreRangesOf, AreNumbersOf};
 
-use crate::between::{changes_between, numbers_between};
+use crate::between::changes_between;
 use crate::change::Change;
 use base_lists::Memory;
+use base_sort::Sorted;
 use std::alloc::Global;
 use std::marker::Model;
 
@@ -18,19 +18,18 @@ pub struct LedgerIndex {
     first: u8,
     changes: Vec<Change>,
     starts: Vec<usize>,
-    parts: Vec<usize>,
-    numbers: Vec<u32>,
+    sorted: Sorted,
 }
 
 impl Model for LedgerIndex {
     ghost use Rattle.base_ledger.specs.Ledger.{IndexView, logged_steps};
-    ghost use Rattle.base_ledger.specs.Parts.{IsIndexOf};
+    ghost use Rattle.base_ledger.specs.Index.{IsIndexOf};
 
     ghost Value = { IndexView };
 
     ghost view = { λ i. logged_steps i.width i.first i.changes.items i.starts.items };
 
-    ghost invariant = { λ i. IsIndexOf i.width i.changes.items i.starts.items i.parts.items i.numbers.items };
+    ghost invariant = { λ i. IsIndexOf i.width i.changes.items i.starts.items i.sorted };
 }
 
 impl LedgerIndex {
@@ -49,15 +48,13 @@ impl LedgerIndex {
         if changes.len() > u32::MAX as usize {
             return Err(Memory);
         }
-        let parts = parts_of(alloc, width, changes.as_slice())?;
-        let numbers = numbers_of(alloc, width, parts.as_slice(), changes.as_slice())?;
+        let sorted = Sorted::new(alloc, width, changes.as_slice())?;
         Ok(LedgerIndex {
             width,
             first,
             changes,
             starts,
-            parts,
-            numbers,
+            sorted,
         })
     }
 
@@ -74,7 +71,7 @@ impl LedgerIndex {
         requires position { position < self.now.width }
         ensures { result ≡ slice_index (step_row self.now.steps step) position }
     {
-        let part = numbers_between(self.numbers.as_slice(), self.parts.as_slice(), position);
+        let part = self.sorted.of(position);
         let count = count_below(part, self.starts[step + 1]);
         if count == 0 {
             return self.first;
@@ -98,15 +95,13 @@ impl LedgerIndex {
     {
         let changes = self.changes.as_slice().to_vec(alloc)?;
         let starts = self.starts.as_slice().to_vec(alloc)?;
-        let parts = self.parts.as_slice().to_vec(alloc)?;
-        let numbers = self.numbers.as_slice().to_vec(alloc)?;
+        let sorted = self.sorted.copied(alloc)?;
         Ok(LedgerIndex {
             width: self.width,
             first: self.first,
             changes,
             starts,
-            parts,
-            numbers,
+            sorted,
         })
     }
 }
@@ -128,58 +123,4 @@ fn count_below(numbers: &[u32], end: usize) -> usize
         }
     }
     low
-}
-
-/// Where the part of each position begins.
-fn parts_of(alloc: Global, width: usize, changes: &[Change]) -> Result<Vec<usize>, Memory>
-    requires few { length changes.now < 2 ^ 32 }
-    requires wide { width ≤ 2 ^ 24 }
-    requires within { AreInWidth width changes.now }
-    ensures { IfOk result (λ parts. AreRangesOf width changes.now parts.items) }
-{
-    let counts = counts_of(alloc, width, changes)?;
-    let mut parts = Vec::new(alloc);
-    let mut end = 0usize;
-    parts.push(0)?;
-    'positions: for position in 0..width {
-        end += counts[position];
-        parts.push(end)?;
-    }
-    Ok(parts)
-}
-
-/// How many changes each position has.
-fn counts_of(alloc: Global, width: usize, changes: &[Change]) -> Result<Vec<usize>, Memory>
-    requires few { length changes.now < 2 ^ 32 }
-    requires within { AreInWidth width changes.now }
-    ensures { IfOk result (λ counts. AreCountsOf width changes.now (length changes.now) counts.items) }
-{
-    let mut counts = vec![in alloc; 0usize; width]?;
-    'changes: for change in changes {
-        counts[change.position()] += 1;
-    }
-    Ok(counts)
-}
-
-/// The numbers of the changes, each in the part of its position, in order.
-fn numbers_of(
-    alloc: Global,
-    width: usize,
-    parts: &[usize],
-    changes: &[Change],
-) -> Result<Vec<u32>, Memory>
-    requires few { length changes.now < 2 ^ 32 }
-    requires within { AreInWidth width changes.now }
-    requires counts { AreRangesOf width changes.now parts.now }
-    ensures { IfOk result (λ numbers. AreNumbersOf width changes.now parts.now numbers.items) }
-{
-    let mut next = parts.to_vec(alloc)?;
-    let mut numbers = vec![in alloc; 0u32; parts[width]]?;
-    'changes: for (number, change) in changes.iter().enumerate() {
-        let position = change.position();
-        let place = next[position];
-        numbers[place] = number as u32;
-        next[position] = place + 1;
-    }
-    Ok(numbers)
 }

@@ -1,7 +1,7 @@
 -- What is next where a walk waits for a line, and what helps to find cones there.
-use Rattle.std.proofs.Common.{◌≡◌, ℕ, ◌<◌, ◌≤◌, Bool, true, false, Option, Some, None, if◌then◌else◌, length, refl, sym, subst, ap, arith}
-use Rattle.std.specs.Prelude.{IfOk, Result, Ok, Err, is_some, nat_lt}
-use Rattle.std.proofs.lemmas.Bool.{lt-ltb, ltb-true}
+use Rattle.std.proofs.Common.{◌≡◌, ℕ, ◌<◌, ◌≤◌, Bool, true, false, Some, None, if◌then◌else◌, length, refl, sym, subst, ap, arith}
+use Rattle.std.specs.Prelude.{IfOk, Result, Ok, Err, nat_lt}
+use Rattle.std.proofs.lemmas.Bool.{ltb-true}
 use Rattle.std.proofs.lemmas.Bool.Decides.{nat_tests}
 use Rattle.cert_turns.proofs.LawsOfCone.{cones_go, cones_grow}
 use Rattle.cert_turns.specs.OfCone.{AreRightOf, Cones}
@@ -12,6 +12,7 @@ use Rattle.law_model.specs.declared.class.Class.TheVariants as seen
 use Rattle.law_model.specs.declared.class.ClassByNumber.{ClassByNumber}
 use Rattle.law_model.specs.declared.class.ClassByNumber.TheVariants.{Local, Free, Carried, Line}
 use Rattle.law_model.specs.declared.line.Line.{Line as ALine}
+use Rattle.wave_proved.proofs.NextLines.{line_next}
 use Rattle.wave_proved.specs.Advance.{GoesOn, IsPlain}
 use Rattle.wave_proved.specs.Contents.{Contents, IsFinished, IsWave, class_or_done, job, next_number, next_seen}
 use Rattle.wave_proved.specs.Token.{HasNext, IsLineNext, with_line, written_by_line}
@@ -21,25 +22,7 @@ use Rattle.cert_check.specs.declared.refusal.CheckErr.{CheckErr}
 pub never : (b : Bool) → b ≡ true → b ≡ false → ⊥
 never b holds fails = absurd cc
 
--- Where a wave has stopped and there is a next place, that is a Line place; and else all are written.
-line_by : (j : Job) (found : Option ClassByNumber) → is_some found ≡ true → (IsPlain (class_or_done j found) → ⊥)
-    → class_or_done j found ≡ seen.Line
-line_by j None some stops = cc
-line_by j (Some (Local bit)) some stops = absurd (stops tt)
-line_by j (Some Free) some stops = absurd (stops tt)
-line_by j (Some (Carried from inverted)) some stops = absurd (stops tt)
-line_by j (Some Line) some stops = refl
-
-there_is : (less : Bool) (class : ClassByNumber) → less ≡ true → is_some (if less then Some class else None) ≡ true
-there_is true class is = refl
-there_is false class is = cc
-
-pub line_next : (c : Contents) → HasNext c → (IsPlain (next_seen c) → ⊥) → IsLineNext c
-line_next c next stops =
-    line_by (job c) _
-    (there_is (nat_lt (length c.written) (places_of (job c))) (class_of (job c) (certain c.written) (length c.written))
-    (lt-ltb (length c.written) (places_of (job c)) next)) stops
-
+-- Where a wave has stopped and there is no next place, all are written.
 none_by : (j : Job) (less : Bool) (class : ClassByNumber) → less ≡ false
     → class_or_done j (if less then Some class else None) ≡ seen.Done
 none_by j true class is = cc

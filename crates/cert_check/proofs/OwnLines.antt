@@ -117,7 +117,7 @@ lines_fit start c (by_line {c = d} goes line next accepts agrees) fits most limi
     (subst AreLimits (sym (along_limits goes)) limited) line accepts)
 
 -- There are no more lines than places.
-picked_few : (test : ℕ → Bool) (n : ℕ) → length (places_where test n) ≤ n
+pub picked_few : (test : ℕ → Bool) (n : ℕ) → length (places_where test n) ≤ n
 picked_few test zero = omega arith
 picked_few test (suc n) =
     let few = picked_few test n in

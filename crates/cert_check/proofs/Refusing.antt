@@ -18,24 +18,23 @@ use Rattle.decide_nodes.specs.declared.node.Node.{Node}
 use Rattle.decide_nodes.specs.Nodes.{nothing, root_bit, sources_of}
 use Rattle.decide_nodes.specs.Traced.{sources_in}
 use Rattle.decide_nodes.specs.Traced.{IsNextCone}
-use Rattle.decide_cnf.specs.Answers.{IsFreshNext, RefutesNext}
 use Rattle.decide_cnf.specs.Query.{IsQueryOfNodes}
 use Rattle.decide_pair.specs.Pairs.{next_bit}
 use Rattle.wave_proved.specs.Contents.{Contents, job, next_number}
 use Rattle.law_model.specs.declared.line.Line.{Line as ALine}
 use Rattle.wave_proved.specs.Advance.{IfObjects, Objects, Reports}
-use Rattle.wave_proved.specs.Token.{HoldsNext, IsLineNext, LineContradicts, LineHolds, written_by_line}
+use Rattle.wave_proved.specs.Token.{HoldsBare, IsLineNext, LineContradicts, LineHolds, written_by_line}
 use Rattle.wave_proved.specs.declared.advance.AdvanceErr.{AdvanceErr}
 use Rattle.wave_proved.specs.declared.advance.AdvanceErr.TheVariants as stopped
 use Rattle.law_along.specs.Accepted.{AcceptsLine, BodyFits, LogFits, NamesNext, variables_next}
 use Rattle.cert_writer.specs.declared.cert.Entry.TheVariants.{Line}
-use Rattle.cert_check.specs.Step.{IsSpent, IsTold, IsVerdictOf, RefusesBody, Stops, faults, next_line, no_memory}
+use Rattle.cert_check.specs.Step.{IsSpent, IsVerdictOf, RefusesBody, Stops, faults, next_line, no_memory}
 use Rattle.cert_check.specs.Walk.{IsCertFault, body_fault, line_objects, refused}
 use Rattle.cert_check.specs.Words.{stopped_by}
 use Rattle.cert_check.specs.declared.refusal.CertFault.{CertFault}
 use Rattle.cert_check.specs.declared.refusal.CheckErr.{CheckErr}
 use Rattle.cert_check.specs.declared.refusal.CheckErr.TheVariants.{Refused}
-use Rattle.cert_turns.proofs.SameQueries.{fresh_same, refutes_same, same_clauses}
+use Rattle.cert_turns.proofs.SameQueries.{fresh_same, refutes_more, same_clauses}
 
 abbrev line : Place → Body → ALine
 line place body = record { place = place; body = body }
@@ -97,20 +96,9 @@ pub log_refuses : (c : Contents) (nodes : List Node) (cnf : Cnf) (bit : Bool) (l
     → IsQueryOfNodes nodes cnf → (Refutes cnf.clauses log → ⊥) → AcceptsLine c (next_line c (Refuted bit log)) → ⊥
 log_refuses c nodes cnf bit log cone query not accepts =
     let holds = accepts.line_holds.holds in
-    not (refutes_same holds.query.clauses cnf.clauses log
+    not (refutes_more holds.query.clauses cnf.clauses log
     (same_clauses (job c) (certain c.written) (next_number c) holds.query cnf holds.is_query (query c (next_number c) cone))
     holds.refutes)
-
--- A log that refutes the query refutes that of the next place, and one that is fresh for it is fresh there.
-pub refutes_next : (c : Contents) (nodes : List Node) (cnf : Cnf) (log : List (List ℤ)) → IsNextCone c nodes
-    → IsQueryOfNodes nodes cnf → Refutes cnf.clauses log → RefutesNext c log
-refutes_next c nodes cnf log cone query refutes =
-    record { query = cnf; is_query = query c (next_number c) cone; refutes = refutes }
-
-pub fresh_next : (c : Contents) (nodes : List Node) (cnf : Cnf) (log : List (List ℤ)) → IsNextCone c nodes
-    → IsQueryOfNodes nodes cnf → AreFresh cnf.clauses log → IsFreshNext c log
-fresh_next c nodes cnf log cone query fresh =
-    record { query = cnf; is_query = query c (next_number c) cone; fresh = fresh }
 
 -- Fillings that give 1, or 0 twice, are no pair.
 pub one_refuses : (c : Contents) (zero one : List Place) → next_bit c zero ≡ true → AcceptsLine c (next_line c (Pair zero one)) → ⊥
@@ -155,18 +143,12 @@ verdict_made c made body holds is fits = record {
   accepts = record { line_holds = holds; fits = subst (BodyFits c) (sym is) fits };
 }
 
--- Two fillings that lanes tell to be a pair are accepted.
-pub told_holds : (c : Contents) (body : Body) → IsTold c body → HoldsNext c body
-told_holds c (Enumerated bit) told = absurd told
-told_holds c (Refuted bit log) told = absurd told
-told_holds c (Pair zero one) told = told
-told_holds c (Undecided log) told = absurd told
-
-pub told_fits : (c : Contents) (body : Body) → IsTold c body → BodyFits c body
-told_fits c (Enumerated bit) told = tt
-told_fits c (Refuted bit log) told = absurd told
-told_fits c (Pair zero one) told = tt
-told_fits c (Undecided log) told = absurd told
+-- A body without a log that holds is accepted.
+pub bare_fits : (c : Contents) (body : Body) → HoldsBare c body → BodyFits c body
+bare_fits c (Enumerated bit) bare = tt
+bare_fits c (Refuted bit log) bare = absurd bare.no_log
+bare_fits c (Pair zero one) bare = tt
+bare_fits c (Undecided log) bare = absurd bare.no_log
 
 -- A place is found otherwise, or there is no memory.
 pub write_stops : (c : Contents) (spent : ALine) (number : ℕ) (err : AdvanceErr) → IsLineNext c → AcceptsLine c spent

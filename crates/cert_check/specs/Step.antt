@@ -66,10 +66,3 @@ RefusesBody c body = AcceptsLine c (next_line c body) → ⊥
 pub record IsVerdictOf (c : Contents) (body : Body) (line : ALine) : Type 0 where
   pub is : line ≡ next_line c body
   pub accepts : AcceptsLine c line
-
--- A body states two fillings, which give the next place 0 and 1.
-abbrev pub IsTold : Contents → Body → Type 0
-IsTold c (body.Enumerated bit) = ⊥
-IsTold c (body.Refuted bit log) = ⊥
-IsTold c (body.Pair zero one) = HoldsNext c (body.Pair zero one)
-IsTold c (body.Undecided log) = ⊥

@@ -5,13 +5,13 @@ ghost use Rattle.cert_turns.specs.OfCone.{AreRightOf};
 ghost use Rattle.decide_nodes.specs.Traced.{IsNextCone};
 ghost use Rattle.wave_proved.specs.Advance.{IsAdvanced, IsObjected, IsPlain};
 ghost use Rattle.wave_proved.specs.Contents.{IsWave, next_seen};
-ghost use Rattle.wave_proved.specs.Token.{IsLineNext};
+ghost use Rattle.wave_proved.specs.Token.{HoldsBare, IsLineNext};
 ghost use Rattle.law_along.specs.Accepted.{AcceptsLine, NamesNext};
 ghost use Rattle.cert_turns.specs.Conditions as turns;
 ghost use Rattle.cert_writer.specs.declared.cert.Entry.TheVariants.{Line as ALine};
 ghost use Rattle.cert_writer.specs.declared.cert.Form.TheVariants.{Turns};
 ghost use Rattle.cert_check.specs.Standing.{ComesFrom, EndsFrom, IsRight, IsWaiting, StopsAt, Takes};
-ghost use Rattle.cert_check.specs.Step.{IsSpent, IsTold, IsVerdictOf, RefusesBody, Stops};
+ghost use Rattle.cert_check.specs.Step.{IsSpent, IsVerdictOf, RefusesBody, Stops};
 
 use crate::bodies::{body_verdict, fault_of};
 use crate::due::{Due, due_of};
@@ -178,7 +178,7 @@ fn spend<'a>(wave: Wave<'a>, verdict: Verdict) -> Result<Wave<'a>, CheckErr>
 }
 
 /// The verdict with a body, where that is accepted at the next place: by lanes, where they tell that two fillings are a
-/// pair, or else by its cone.
+/// pair; where it is found again; or else by its cone.
 fn line_verdict(
     alloc: Global,
     wave: &Wave<'_>,
@@ -197,7 +197,7 @@ fn line_verdict(
     }
 }
 
-/// The cone of the next place, a Line place, unless lanes tell that a body holds there.
+/// The cone of the next place, a Line place, unless lanes tell that a body holds there, or it is found again.
 fn cone_for(
     alloc: Global,
     wave: &Wave<'_>,
@@ -208,10 +208,13 @@ fn cone_for(
     requires right { AreRightOf wave.now cones.old }
     ensures right { OnOk result (AreRightOf wave.now cones.new) }
     ensures cone { IfOk result (λ found. IfSome found (λ cone. IsNextCone wave.now cone.nodes)) }
-    ensures told { IfOk result (λ found. IfNone found (IsTold wave.now body.now)) }
+    ensures told { IfOk result (λ found. IfNone found (HoldsBare wave.now body.now)) }
 {
     cones.lanes.look(alloc, wave)?;
     if do_tell(alloc, wave, &cones.lanes, body)? {
+        return Ok(None);
+    }
+    if cones.finds_again(alloc, wave, body)? {
         return Ok(None);
     }
     let cone = cones.cone(alloc, wave)?;

@@ -3,8 +3,7 @@
 ghost use Rattle.std.specs.Prelude.{IfOk, IsTrue};
 ghost use Rattle.cert_turns.specs.OfCone.{IsLookedAt, IsRightOf};
 ghost use Rattle.law_model.specs.declared.line.Body.TheVariants as body;
-ghost use Rattle.wave_proved.specs.Token.{HoldsNext};
-ghost use Rattle.cert_check.specs.Step.{IsTold};
+ghost use Rattle.wave_proved.specs.Token.{HoldsBare, HoldsNext};
 
 use crate::pairs::are_fillings;
 use base_lists::Memory;
@@ -19,7 +18,7 @@ use wave_proved::Wave;
 pub fn do_tell(alloc: Global, wave: &Wave<'_>, lanes: &Lanes, body: &Body) -> Result<bool, Memory>
     requires right { IsRightOf wave.now lanes.now }
     requires looked { IsLookedAt wave.now lanes.now }
-    ensures { IfOk result (λ told. IsTrue told → IsTold wave.now body.now) }
+    ensures { IfOk result (λ told. IsTrue told → HoldsBare wave.now body.now) }
 {
     match body {
         Body::Pair(zero, one) => are_told(alloc, wave, lanes, zero, one),

@@ -16,6 +16,7 @@ use Rattle.law_model.proofs.PlacesWhere.{among_all, contains_among, or_left, or_
 use Rattle.wave_proved.specs.Contents.{Contents, job}
 use Rattle.decide_cone.specs.Boundary.{is_boundary, is_near, near_in}
 use Rattle.decide_nodes.specs.declared.node.Node.{Node}
+use Rattle.decide_nodes.proofs.ConeBits.{last_place}
 use Rattle.decide_cnf.specs.Clauses.{AreNodeClauses}
 use Rattle.decide_cnf.specs.Literals.{AreLiterals, IsLiteral, literal_at, says, variables_of}
 use Rattle.decide_cnf.proofs.EarlyClauses.{all_literals}
@@ -24,7 +25,7 @@ use Rattle.cert_condition.specs.TurnQuery.{turn_denial, turn_literal, unit_claus
 use Rattle.cert_condition.specs.View.{IsAbout, settled_bit}
 use Rattle.cert_condition.specs.declared.next.NextQuery.{NextQuery}
 use Rattle.cert_condition.proofs.TurnChoices.{boundary_low, listed_beside, turn_literal_fits, turn_literal_some}
-use Rattle.cert_condition.proofs.TurnClauses.{last_place, turn_denial_same, whole_made}
+use Rattle.cert_condition.proofs.TurnClauses.{turn_denial_same, whole_made}
 use Rattle.cert_condition.proofs.TurnLiterals.{near_count, near_rises, turn_node_literal, turn_variables_counted}
 
 some_literal : (l : ℤ) → l ≢ pos 0 → 0 < nat_abs l

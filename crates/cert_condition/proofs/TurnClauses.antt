@@ -1,5 +1,5 @@
 -- The clauses over the nodes of a turn query are those of its cone.
-use Rattle.std.proofs.Common.{◌≡◌, ℕ, zero, suc, ◌+◌, ◌-◌, ◌<◌, ◌&&◌, not, Bool, true, false, List, [], ◌∷◌, ◌++◌, length, map, refl, sym, ap, ◌∙◌, arith, add-one, subst, ⊎_elim, slice_index, length-append}
+use Rattle.std.proofs.Common.{◌≡◌, ℕ, zero, suc, ◌+◌, ◌-◌, ◌<◌, ◌&&◌, not, Bool, true, false, List, [], ◌∷◌, ◌++◌, length, map, refl, sym, ap, ◌∙◌, arith, subst, ⊎_elim, slice_index}
 use Rattle.std.specs.Prelude.{ℤ}
 use Rattle.std.proofs.Math.ListN.{get_or-append}
 use Rattle.std.proofs.Math.Seq.{get_or-append_seam}
@@ -16,7 +16,7 @@ use Rattle.law_model.specs.Assignment.{argument_places}
 use Rattle.law_model.specs.Class.{class_of}
 use Rattle.law_model.specs.Cone.{in_cone, is_carried}
 use Rattle.law_model.specs.Node.{NodeBody, carried, ruled, table_of, upto}
-use Rattle.law_model.specs.Places.{among, places_where}
+use Rattle.law_model.specs.Places.{among}
 use Rattle.law_model.specs.Query.{IsChoice, IsClause}
 use Rattle.law_model.proofs.ArgumentPositions.{Matches, choice_matched}
 use Rattle.law_model.proofs.Cones.{cone_self, cone_within}
@@ -25,6 +25,7 @@ use Rattle.law_model.proofs.PlacesWhere.{contains_among, in_picked, or_left, pic
 use Rattle.wave_proved.specs.Contents.{Contents, job}
 use Rattle.decide_nodes.specs.declared.node.Node.{Node}
 use Rattle.decide_nodes.specs.Nodes.{body_at}
+use Rattle.decide_nodes.proofs.ConeBits.{last_place}
 use Rattle.decide_cnf.specs.Clauses.{AreNodeClauses, IsNodeClause, IsTableClause, denial_of, node_says}
 use Rattle.decide_cnf.specs.Literals.{AreLiterals, literal_at, says}
 use Rattle.decide_cnf.proofs.NameMatches.{name_matches, number_matches}
@@ -191,15 +192,6 @@ whole_body j cert root places place (carried node inverted) is inside free =
 whole_body j cert root places place (ruled arguments values) is inside free =
     ⊎_elim (λ (w : IsWholeRule j cert root places place arguments values). (arguments, values, refl, w))
     (λ (o : IsOpen j cert root place arguments values). (let e : true ≡ false = sym inside ∙ o.outside in cc)) is
-
-pub last_place : (test : ℕ → Bool) (root : ℕ) → test root ≡ true
-    → slice_index (places_where test (root + 1)) (length (places_where test (root + 1)) - 1) ≡ root
-last_place test root holds =
-    let xs : List ℕ = places_where test root in
-    let whole : places_where test (root + 1) ≡ xs ++ root ∷ [] = rw (add-one, holds) refl in
-    let long : length (xs ++ root ∷ []) - 1 ≡ length xs =
-    (let l = length-append xs (root ∷ []) in omega (arith, l)) in
-    rw (whole, long) (get_or-append_seam xs root [] 0)
 
 module _ (c : Contents) (root : ℕ) (nodes : List Node) (is : AreTurnNodes c root nodes) (literals : List ℤ)
     (are : AreLiterals nodes literals) where

@@ -1,5 +1,5 @@
 -- The literals of the nodes of a turn query are those of its places.
-use Rattle.std.proofs.Common.{◌≡◌, ℕ, zero, suc, ◌+◌, ◌<◌, ◌≤◌, ◌&&◌, ◌||◌, not, Bool, true, false, cond, List, [], ◌∷◌, filter, length, take, refl, sym, ap, ◌∙◌, arith, add-one, subst, ⊎_elim, slice_index, slice_index_or}
+use Rattle.std.proofs.Common.{◌≡◌, ℕ, zero, suc, ◌+◌, ◌<◌, ◌≤◌, ◌&&◌, ◌||◌, not, Bool, true, false, List, [], ◌∷◌, filter, length, take, refl, sym, ap, ◌∙◌, arith, add-one, subst, ⊎_elim, slice_index, slice_index_or}
 use Rattle.std.specs.Prelude.{ℤ, pos}
 use Rattle.std.specs.List.Sorted.{IsStrictlyIncreasing}
 use Rattle.std.proofs.lemmas.Bool.{and_from, cases_Bool, or_cases}
@@ -23,36 +23,11 @@ use Rattle.decide_nodes.specs.declared.node.NodeBody.TheVariants.{Carried, Rule}
 use Rattle.decide_nodes.specs.Nodes.{StandsAt, body_of, node_at, no_node, place_of_node}
 use Rattle.decide_nodes.proofs.PickedLists.{filter_position, places_both}
 use Rattle.decide_cnf.specs.Literals.{AreLiterals, is_ruled_body, is_ruled_node, literal_at, literal_by, says, variables_of}
-use Rattle.decide_cnf.proofs.ConeLiterals.{passes_match}
+use Rattle.decide_cnf.proofs.ConeLiterals.{passes_before, passes_match, signed_says, turned_says}
 use Rattle.decide_cone.specs.Boundary.{is_boundary, is_near, near_in}
 use Rattle.cert_condition.specs.TurnNodes.{AreTurnNodes, IsOpen, IsTurnBody, IsWholeRule}
 use Rattle.cert_condition.specs.TurnQuery.{is_turn_variable, turn_literal, turn_root, turn_variables}
 use Rattle.cert_condition.proofs.TurnChoices.{boundary_outside, root_beside, root_inside, variable_near}
-
-passes_before : {A : Type 0} (t : A → Bool) (d : A) (xs : List A) (p : ℕ) → p < length xs
-    → t (slice_index_or xs p d) ≡ true → length (filter t (take p xs)) < length (filter t xs)
-passes_before t d [] p less passes = absurd (omega arith)
-passes_before t d (x ∷ xs) zero less passes = rw passes (omega arith)
-passes_before t d (x ∷ xs) (suc p) less passes = step (t x) (passes_before t d xs p (omega arith) passes)
-  where
-    step : (a : Bool) → length (filter t (take p xs)) < length (filter t xs)
-        → length (cond a (x ∷ filter t (take p xs)) (filter t (take p xs)))
-        < length (cond a (x ∷ filter t xs) (filter t xs))
-    step true ih = omega (arith, ih)
-    step false ih = ih
-
--- A literal of a bit, from that of 1.
-signed_says : (n : ℕ) (inverted bit : Bool) → signed n (flipped inverted bit)
-    ≡ says (signed n (flipped inverted true)) bit
-signed_says n inverted true = refl
-signed_says n false false = refl
-signed_says n true false = refl
-
-turned_says : (n : ℕ) (turned inverted : Bool)
-    → signed n (flipped (flipped turned inverted) true) ≡ says (signed n (flipped inverted true)) (not turned)
-turned_says n false inverted = refl
-turned_says n true false = refl
-turned_says n true true = refl
 
 near_turn : (j : Job) (c : ℕ → Value) (root k : ℕ) → is_near j c root k && is_turn_variable j c root k
     ≡ is_turn_variable j c root k

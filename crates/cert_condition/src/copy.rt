@@ -4,35 +4,19 @@ ghost use Rattle.std.specs.Prelude.{◌≡◌, IfOk};
 
 use base_lists::{Items, Memory};
 use design_circuit::Place;
-use sat_proof::{Clause, Cnf};
+use sat_proof::Cnf;
+use sat_query::copies::copied;
 use std::alloc::Global;
 
 /// A formula once more. Takes four bytes a literal, and some for each clause.
 pub fn copy_of(alloc: Global, cnf: &Cnf) -> Result<Cnf, Memory>
     ensures { IfOk result (λ copy. copy ≡ cnf.now) }
 {
-    let clauses = copies_of(alloc, cnf.clauses.as_slice())?;
+    let clauses = copied(alloc, cnf.clauses.as_slice())?;
     Ok(Cnf {
         vars: cnf.vars,
         clauses: Items::from_vec(clauses),
     })
-}
-
-fn copies_of(alloc: Global, clauses: &[Clause]) -> Result<Vec<Clause>, Memory>
-    ensures { IfOk result (λ copies. copies.items ≡ clauses.now) }
-{
-    let mut copies = Vec::with_capacity(alloc, clauses.len())?;
-    'clauses: for clause in clauses {
-        copies.push(copy_of_clause(alloc, clause)?)?;
-    }
-    Ok(copies)
-}
-
-fn copy_of_clause(alloc: Global, clause: &Clause) -> Result<Clause, Memory>
-    ensures { IfOk result (λ copy. copy ≡ clause.now) }
-{
-    let literals = clause.as_slice().to_vec(alloc)?;
-    Ok(Clause::from_vec(literals))
 }
 
 /// Places once more. Takes 8 bytes for each.

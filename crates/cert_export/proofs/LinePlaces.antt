@@ -1,20 +1,20 @@
 -- The lines of a wave are of Line places that are written.
-use Rattle.std.proofs.Common.{◌≡◌, ◌∙◌, ℕ, zero, suc, ◌<◌, ◌≤◌, ◌^◌, Bool, true, false, List, [], ◌∷◌, ◌++◌, length, get_or, map, if◌then◌else◌, refl, sym, ap, subst, arith}
+use Rattle.std.proofs.Common.{◌≡◌, ◌∙◌, ℕ, zero, suc, ◌<◌, ◌≤◌, ◌^◌, Bool, true, List, [], ◌∷◌, ◌++◌, length, get_or, map, if◌then◌else◌, refl, sym, ap, subst, arith}
 use Rattle.std.specs.List.{AllByRecursion}
-use Rattle.std.proofs.lemmas.List.{length-append, length-map}
+use Rattle.std.proofs.lemmas.List.{length-map}
 use Rattle.design_circuit.specs.Fits.{place_at}
 use Rattle.design_circuit.specs.Job.{places_of}
 use Rattle.design_circuit.specs.Waveform.{certain}
 use Rattle.design_circuit.specs.declared.place.Place.{Place}
 use Rattle.design_circuit.proofs.Numbers.{is_place_at, number_of_place_at}
 use Rattle.law_model.specs.Class.{class_of}
-use Rattle.law_model.specs.Places.{places_where}
 use Rattle.law_model.specs.Yields.{is_line, line_places, places_of_lines}
 use Rattle.law_model.specs.declared.class.ClassByNumber.{ClassByNumber}
 use Rattle.law_model.specs.declared.class.ClassByNumber.TheVariants.{Local, Free, Carried, Line}
 use Rattle.law_model.specs.declared.line.Line.{Line as ALine}
 use Rattle.law_model.proofs.PlacesWhere.{among_all, in_picked}
 use Rattle.wave_proved.specs.Contents.{Contents, IsWave, job}
+use Rattle.cert_check.proofs.OwnLines.{picked_few}
 use Rattle.cert_export.specs.Adding.{IsLineIn}
 
 line_class : (class : ClassByNumber) → is_line class ≡ true → class ≡ Line
@@ -61,14 +61,6 @@ module _ (c : Contents) (wave : IsWave c) where
   line_in i d within = here (IsLineIn c) c.lines i d within each
 
 -- There are no more lines than places.
-picked_few : (test : ℕ → Bool) (n : ℕ) → length (places_where test n) ≤ n
-picked_few test zero = omega arith
-picked_few test (suc n) =
-    let few = picked_few test n in
-    let long = length-append (places_where test n) (n ∷ []) in
-    elim (test n) as (λ t. length (if t then places_where test n ++ n ∷ [] else places_where test n) ≤ suc n)
-    [ true ↦ omega (arith, few, long) | false ↦ omega (arith, few) ]
-
 pub few_lines : (c : Contents) → IsWave c → length c.lines < 2 ^ 64
 few_lines c wave =
     let numbers = line_places (job c) (certain c.written) (length c.written) in

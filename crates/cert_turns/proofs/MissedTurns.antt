@@ -23,7 +23,8 @@ use Rattle.law_model.specs.declared.turn.Turn.TheVariants.{Dropped, Needed, Trie
 use Rattle.law_model.specs.declared.turn.TurnLine.{TurnLine}
 use Rattle.wave_proved.specs.Contents.{Contents, job}
 use Rattle.cert_turns.specs.TurnLines.{AreTurnLinesIn, IsNeverNext, IsNoTurn, IsTaken, places_of_turns, stated, turn_lines, turn_places, turns_in}
-use Rattle.cert_turns.proofs.SameQueries.{Within, fresh_same, refutes_same}
+use Rattle.cert_turns.proofs.SameQueries.{fresh_same, refutes_more}
+use Rattle.sat_query.specs.Core.{AreAmong}
 use Rattle.cert_turns.proofs.StatedTurns.{first_places, kept_within, stated_long, stated_more, stated_turns, turns_fit}
 
 -- The last of some turns is about the list that those before it leave, without the next place.
@@ -139,10 +140,10 @@ other_place a b holds is fails same =
 
 -- Two turn queries of one list have the same clauses.
 same_turns : (j : Job) (known : ℕ → Value) (root : ℕ) (value : Bool) (listed : List ℕ) (a b : Cnf)
-    → IsTurnQuery j known root value listed a → IsTurnQuery j known root value listed b → Within a.clauses b.clauses
+    → IsTurnQuery j known root value listed a → IsTurnQuery j known root value listed b → AreAmong a.clauses b.clauses
 same_turns j known root value listed a b first second clause here = second.all clause (first.each clause here)
 
-met_within : (v : ℕ → Bool) (a b : List (List ℤ)) → Within b a → All (IsMet v) a → All (IsMet v) b
+met_within : (v : ℕ → Bool) (a b : List (List ℤ)) → AreAmong b a → All (IsMet v) a → All (IsMet v) b
 met_within v a b within met =
     All-weaker (Contains b) (IsMet v) (λ clause here. All-contains (IsMet v) a clause met (within clause here)) b
     (All-contains_itself b)
@@ -150,8 +151,8 @@ met_within v a b within met =
 -- What the next query refuses no turn says.
 record AreAlike (a b : Cnf) : Type 0 where
   vars : a.vars ≡ b.vars
-  there : Within a.clauses b.clauses
-  back : Within b.clauses a.clauses
+  there : AreAmong a.clauses b.clauses
+  back : AreAmong b.clauses a.clauses
 
 alike : (view : ConditionView) (query : Cnf) → IsNextQuery view query → (c : Contents) (root : ℕ)
     → IsConditionOf c root view → (other : Cnf) → IsTurnQueryIn c root (next_in c root view.turns) other
@@ -184,7 +185,7 @@ pub never_dropped : (view : ConditionView) (query : Cnf) (log : List (List ℤ))
     → (Refutes query.clauses log → ⊥) → IsNeverNext view (Dropped log)
 never_dropped view query log next stands c root is says =
     let same = alike view query next c root is says.query says.is_query in
-    stands (refutes_same says.query.clauses query.clauses log same.there says.finds.1)
+    stands (refutes_more says.query.clauses query.clauses log same.there says.finds.1)
 
 pub never_tried : (view : ConditionView) (query : Cnf) (log : List (List ℤ)) → IsNextQuery view query
     → (AreFresh query.clauses log × (length log ≡ view.limit) → ⊥) → IsNeverNext view (Tried log)

@@ -50,6 +50,12 @@ times_ascend moments = λ k within.
     let second = time_is moments (k + 1) (omega (arith, all, within)) in
     omega (arith, first, second)
 
+pub times_small : (moments : ℕ) → moments ≤ 16 → All (λ time. time < 2 ^ 64) (times_of moments)
+times_small moments few = λ k d within.
+    let all = times_length moments in
+    let is = time_is moments k (omega (arith, all, within)) in
+    rw (get_or_default (times_of moments) k d 0 within) (omega (arith, all, within, few, is))
+
 -- ---- the starts
 
 -- a driver that fits starts at no z

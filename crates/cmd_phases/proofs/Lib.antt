@@ -1,7 +1,6 @@
 -- Lemmas on the phases of commands, and those on objections that commands cite.
 pub mod Agreeing
 pub mod CheckedPlaces
-pub mod Faults
 pub mod CutTexts
 pub mod FoundPlaces
 pub mod JobTexts

@@ -15,7 +15,7 @@ use Rattle.design_circuit.specs.Order.{position_of}
 use Rattle.design_circuit.specs.Replay.{blank}
 use Rattle.design_circuit.proofs.OrderLemmas.{position_within}
 use Rattle.design_circuit.proofs.Rules.{some_width}
-use Rattle.cert_check.proofs.Dues.{place_back}
+use Rattle.design_circuit.proofs.PlaceNumbers.{place_back}
 
 module _ (j : Job) (fits : Fits j) where
   -- A place of the job has a number below that of all places.

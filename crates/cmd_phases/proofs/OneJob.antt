@@ -19,7 +19,7 @@ use Rattle.cmd_phases.specs.Phases.{job_phases, parts, scope_of}
 use Rattle.cmd_phases.specs.Repair.{CompareComes, rules_of, undriven_rule_of}
 use Rattle.cmd_phases.specs.declared.cause.Refused.{Refused}
 use Rattle.cmd_phases.specs.declared.parts.Parts.{Parts}
-use Rattle.cmd_phases.proofs.Faults.{OrdersAll, no_first, one_fault}
+use Rattle.replay_history.proofs.Faults.{OrdersAll, no_first, one_fault}
 use Rattle.cmd_phases.proofs.OneStimulus.{one_binding, one_said, one_stim}
 
 same_recorded : (a b : Recorded) → a.recording ≡ b.recording → a.binding ≡ b.binding → a.stim ≡ b.stim → a ≡ b
@@ -39,8 +39,8 @@ orders_of n r ordered = record { ordering = order_lists (driver_in n.design) (le
 
 pub one_compared : (n : ANetlist) (r : Recorded) → OrdersAll (job_for n r) → IsOne (CompareComes n r)
 one_compared n r orders (Ok a) (Ok b) first second = refl
-one_compared n r orders (Ok a) (Err f) first second = absurd (no_first (job_for n r) orders r.recording r.binding second.differ first second.first)
-one_compared n r orders (Err e) (Ok b) first second = absurd (no_first (job_for n r) orders r.recording r.binding first.differ second first.first)
+one_compared n r orders (Ok a) (Err f) first second = absurd (no_first (job_for n r) r.recording r.binding second.differ first second.first)
+one_compared n r orders (Err e) (Ok b) first second = absurd (no_first (job_for n r) r.recording r.binding first.differ second first.first)
 one_compared n r orders (Err e) (Err f) first second =
     let same = one_fault (job_for n r) orders r.recording r.binding first.differ second.differ first.first second.first in
     ap Err (first.reported ∙ ap (λ (d : Differ). refusal_for n r d) same ∙ sym second.reported)

@@ -1,12 +1,10 @@
 -- A list of starts comes to one thing.
-use mathlib.Core.HLevel.{is_prop→PathP}
-use native.Mathlib.Bridge.{le_prop}
-use native.Mathlib.Nat.{ℕ_set}
-use Rattle.std.proofs.Common.{◌≡◌, ◌∙◌, ◌<◌, ◌≤◌, ◌^◌, List, length, None, Some, Ok, Err, sym, ap, arith, ⊎_elim}
+use Rattle.std.proofs.Common.{◌≡◌, ◌∙◌, ◌<◌, ◌≤◌, List, length, None, Some, Ok, Err, sym, ap, arith, ⊎_elim}
 use Rattle.std.proofs.lemmas.Bool.{cases_lt}
 use Rattle.design_cell.specs.declared.value.Value.{Value}
 use Rattle.design_circuit.specs.declared.design.Design.{Design}
 use Rattle.design_circuit.specs.declared.stim.Stim.{Stim}
+use Rattle.recording_binding.proofs.Stimuli.{one_stim_by}
 use Rattle.report_fix.specs.Started.{AreFine, IsFirstFault, IsStarted, Piece, fault_at}
 use Rattle.report_fix.specs.declared.refusal.StartFault.{StartFault}
 use Rattle.cmd_job.specs.declared.netlist.Netlist.{Netlist as ANetlist}
@@ -35,21 +33,6 @@ module _ (design : Design) (starts : List Value) (pieces : List Piece) where
   none_first : (a : StartFault) → AreFine design starts pieces (length pieces) → IsFirstFault design starts pieces a → ⊥
   none_first a fine first = no_fault a (sym (fine first.at first.within) ∙ first.is)
 
--- Stimuli with the same data are the same: what is always true of one has one proof.
-same_stim : (a b : Stim) → a.times ≡ b.times → a.rounds ≡ b.rounds → a.inputs ≡ b.inputs → a.rules ≡ b.rules → a.starts ≡ b.starts → a ≡ b
-same_stim a b times rounds inputs rules starts = λ i. record {
-  times = times i;
-  rounds = rounds i;
-  inputs = inputs i;
-  rules = rules i;
-  starts = starts i;
-  some_moment = is_prop→PathP (λ k. 0 < length (times k)) (λ k. le_prop) a.some_moment b.some_moment i;
-  few_moments = is_prop→PathP (λ k. length (times k) < 2 ^ 28) (λ k. le_prop) a.few_moments b.few_moments i;
-  some_round = is_prop→PathP (λ k. 0 < rounds k) (λ k. le_prop) a.some_round b.some_round i;
-  few_rounds = is_prop→PathP (λ k. rounds k ≤ 16) (λ k. le_prop) a.few_rounds b.few_rounds i;
-  rows = is_prop→PathP (λ k. length (inputs k) ≡ length (times k)) (λ k. ℕ_set (length (inputs k)) (length (times k))) a.rows b.rows i;
-}
-
 one_stim : (design : Design) (old : Stim) (pieces : List Piece) (a b : Stim) → IsStarted design old pieces a → IsStarted design old pieces b → a ≡ b
 one_stim design old pieces a b first second =
     let times = first.others.times ∙ sym second.others.times in
@@ -57,7 +40,7 @@ one_stim design old pieces a b first second =
     let inputs = first.others.inputs ∙ sym second.others.inputs in
     let rules = first.others.rules ∙ sym second.others.rules in
     let starts = first.starts ∙ sym second.starts in
-    same_stim a b times rounds inputs rules starts
+    one_stim_by a b times rounds inputs rules starts
 
 pub one_started : (n : ANetlist) (stim : Stim) (pieces : List Piece) → IsOne (StartsCome n stim pieces)
 one_started n stim pieces (Ok a) (Ok b) first second = ap Ok (one_stim n.design stim pieces a b first second)

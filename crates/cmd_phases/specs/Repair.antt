@@ -20,7 +20,6 @@ use Rattle.wave_proved.specs.Contents.{Contents, IsFinished, IsWave, nothing_wri
 use Rattle.wave_proved.specs.Shown.{ShowsWave}
 use Rattle.wave_proved.specs.declared.advance.Optimistic.{Optimistic as FoundOtherwise}
 use Rattle.law_along.specs.Along.{GoesAlong}
-use Rattle.replay_code.specs.Laws.{HasSmallTimes}
 use Rattle.decide_repair.specs.Repaired.{IsObjection, IsOfJob}
 use Rattle.cmd_job.specs.Compared.{IsRefusedReplay, job_for}
 use Rattle.cmd_job.specs.Names.{net_name}
@@ -134,7 +133,6 @@ pub record Found : Type 0 where
 
 pub record IsFoundRepair (limits : Limits) (n : ANetlist) (r : Recorded) (found : Found) : Type 0 where
   pub fits : FitsJob n r
-  pub times : HasSmallTimes r.stim
   pub replay : IsReplay (job_for n r) found.history
   pub repaired : IsRepairedBy limits n r.stim found.history found.wave
   pub shows : ShowsWave found.wave found.shown

@@ -274,7 +274,7 @@ module _ (w : RepairValues) (netlist recording : List ℕ) (is : Made w netlist 
     events = events;
     are = are_forces;
     text_is = refl;
-    says = own_forces_said is.n is.r (scope_of w.job) (value_in written) is.is.fits is.is.times named;
+    says = own_forces_said is.n is.r (scope_of w.job) (value_in written) is.is.fits named;
     there = replays_exist j fits (forced_by j events);
     shown = λ history forced. forces_show j (value_in written) events history are_forces forced;
     replayed = λ history forced.

@@ -2,7 +2,6 @@
 use Rattle.std.proofs.Common.{ℕ, List}
 use Rattle.std.specs.List.{AllByRecursion}
 use Rattle.design_cell.specs.declared.value.Value.{Value}
-use Rattle.replay_code.specs.Laws.{HasSmallTimes}
 use Rattle.replay_code.specs.Says.{CodeSays}
 use Rattle.replay_code.specs.Written.{code_text}
 use Rattle.replay_code.proofs.OwnCode.{own_says}
@@ -18,9 +17,9 @@ use Rattle.cmd_phases.specs.Phases.{parts}
 use Rattle.cmd_phases.specs.Repair.{FitsJob}
 use Rattle.cmd_phases.proofs.Jobs.{circuit_fits, fits_job}
 
-pub own_forces_said : (n : ANetlist) (r : Recorded) (scope : List (List ℕ)) (values : ℕ → Value) → FitsJob n r → HasSmallTimes r.stim → AllByRecursion IsScopeName scope
+pub own_forces_said : (n : ANetlist) (r : Recorded) (scope : List (List ℕ)) (values : ℕ → Value) → FitsJob n r → AllByRecursion IsScopeName scope
     → CodeSays (code_in (parts n r) (code_text n.design r.stim scope (forces_of (job_for n r) values)) scope) (forces_of (job_for n r) values)
-own_forces_said n r scope values fits times named =
+own_forces_said n r scope values fits named =
     own_says n.design n.order r.stim scope (forces_of (job_for n r) values) (circuit_fits n r fits) fits.netlist.design
-    (scope_writable IsScopeName scope (λ name is. name_writable name is.some is.graphic) named) times
+    (scope_writable IsScopeName scope (λ name is. name_writable name is.some is.graphic) named)
     (forces_exist (job_for n r) values (fits_job n r fits)).least

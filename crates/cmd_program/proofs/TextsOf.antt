@@ -17,7 +17,6 @@ use Rattle.cert_writer.specs.declared.cert.Form.{Form}
 use Rattle.cert_writer.specs.declared.cert.Form.TheVariants.{Turns}
 use Rattle.cmd_phases.specs.OfCond.{ConditionView}
 use Rattle.cmd_phases.specs.OfListing.{conditions_text}
-use Rattle.replay_code.specs.Laws.{HasSmallTimes}
 use Rattle.replay_code.specs.Written.{code_text}
 use Rattle.design_circuit.specs.History.{HistoryView}
 use Rattle.recording_writer.specs.Text.{vcd_text, HasSteps}
@@ -56,14 +55,13 @@ wave_vcd n r wave shown is = rw (is.design, is.stim) refl
 
 -- The answer has the texts of the wave.
 pub wave_texts : (w : RepairValues) (n : ANetlist) (r : Recorded) (wave : Contents) (shown : HistoryView) (forces : List Event) (scope : List (List ℕ)) (vcd code cert report : List ℕ)
-    (form : Form) (conditions listed : List ConditionView) → HasSmallTimes r.stim → ShowsWave wave shown → forces ≡ forces_in wave → scope ≡ scope_of w.job
+    (form : Form) (conditions listed : List ConditionView) → ShowsWave wave shown → forces ≡ forces_in wave → scope ≡ scope_of w.job
     → vcd ≡ vcd_text n.design r.binding r.stim shown → code ≡ code_text n.design r.stim scope forces → form ≡ form_of w.form
     → AreConditionsFor form wave conditions → listed ≡ conditions → cert ≡ cert_text (cert_in form wave listed)
     → report ≡ report_text wave r.binding w.lines forces ++ conditions_text wave listed → (result : Result Ready Memory)
     → IfOk result (λ ready. answer_of ready ≡ answer_with w vcd code cert report) → IfOk result (λ ready. HasTexts w n r wave (answer_of ready))
-wave_texts w n r wave shown forces scope vcd code cert report form conditions listed times shows same named vcd_is code_is form_is are listed_is cert_is report_is (Err e) is = tt
-wave_texts w n r wave shown forces scope vcd code cert report form conditions listed times shows same named vcd_is code_is form_is are listed_is cert_is report_is (Ok ready) is = record {
-  times = times;
+wave_texts w n r wave shown forces scope vcd code cert report form conditions listed shows same named vcd_is code_is form_is are listed_is cert_is report_is (Err e) is = tt
+wave_texts w n r wave shown forces scope vcd code cert report form conditions listed shows same named vcd_is code_is form_is are listed_is cert_is report_is (Ok ready) is = record {
   shown = shown;
   shows = shows;
   conditions = conditions;

@@ -4,7 +4,6 @@ use Rattle.cmd_phases.specs.OfCert.{AreConditionsFor, cert_in}
 use Rattle.cert_writer.specs.Text.{cert_text}
 use Rattle.cmd_program.specs.Lines.{IsLines}
 use Rattle.cmd_program.specs.declared.commands.repair.Repair.{Repair}
-use Rattle.replay_code.specs.Laws.{HasSmallTimes}
 use Rattle.replay_code.specs.Written.{code_text}
 use Rattle.cmd_phases.specs.OfCond.{ConditionView}
 use Rattle.design_circuit.specs.Handed.{IsReplay}
@@ -99,10 +98,8 @@ texts_answer w n r wave shown conditions =
     (code_text n.design r.stim (scope_of w.job) (forces_in wave))
     (cert_text (cert_in (form_of w.form) wave conditions)) (whole_report wave r.binding w.lines conditions)
 
--- An answer is made so of a history that the wave shows, of times that are numbers of 64 bits, and of conditions of the
--- wave, as the form asks for.
+-- An answer is made so of a history that the wave shows, and of conditions of the wave, as the form asks for.
 pub record HasTexts (w : RepairValues) (n : ANetlist) (r : Recorded) (wave : Contents) (answer : Answer) : Type 0 where
-  pub times : HasSmallTimes r.stim
   pub shown : HistoryView
   pub shows : ShowsWave wave shown
   pub conditions : List ConditionView

@@ -14,7 +14,6 @@ use base_run::{Ready, Refusal, Report};
 use base_shelf::Sink;
 use cmd_phases::{Parts, Refused, blame_text, wave_of};
 use design_circuit::History;
-use replay_code::read_times;
 use std::alloc::Global;
 use wave_proved::Wave;
 
@@ -34,8 +33,6 @@ pub fn blamed<'a, O: Sink>(
 {
     let limits = words.limits;
     let wave = wave_of(alloc, &job.netlist, &job.recorded, history, limits, out)?;
-    // With it comes the fact that the times are numbers of 64 bits.
-    read_times(&job.recorded.stim);
     Ok(listed(alloc, job, &wave)?)
 }
 

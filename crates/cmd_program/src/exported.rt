@@ -13,7 +13,6 @@ use base_shelf::Sink;
 use cert_export::export_texts;
 use cmd_phases::{Parts, Refused, wave_of};
 use design_circuit::History;
-use replay_code::read_times;
 use std::alloc::Global;
 
 /// The walk over the places of a job that agrees, and its texts.
@@ -32,7 +31,5 @@ pub fn exported<'a, O: Sink>(
 {
     let limits = words.limits;
     let wave = wave_of(alloc, &job.netlist, &job.recorded, history, limits, out)?;
-    // With it comes the fact that the times are numbers of 64 bits.
-    read_times(&job.recorded.stim);
     Ok(export_texts(alloc, words.prefix, &wave)?)
 }

@@ -28,7 +28,6 @@ use cmd_phases::{
 use design_circuit::{History, Levels, RegisterRules, StartRule};
 use law_model::Limits;
 use recording_binding::UndrivenRule;
-use replay_code::read_times;
 use replay_forces::forces_of;
 use report_bits::write_head;
 use std::alloc::Global;
@@ -190,8 +189,6 @@ fn walked<'a, O: Sink>(
         enumerated: 12,
     };
     let wave = wave_of(alloc, &job.netlist, &job.recorded, history, limits, out)?;
-    // With it comes the fact that the times are numbers of 64 bits.
-    read_times(&job.recorded.stim);
     Ok(answered(alloc, texts, &wave)?)
 }
 

@@ -12,7 +12,7 @@ use base_run::{Output, Ready, Report};
 use cmd_job::{Netlist, Recorded};
 use cmd_phases::{conditions_for, form_of, names_of, write_cert};
 use recording_shown::wave_text;
-use replay_code::{read_times, write_code};
+use replay_code::write_code;
 use replay_forces::forces_of;
 use std::alloc::Global;
 use wave_proved::Wave;
@@ -30,8 +30,6 @@ pub fn texts_of<'a>(
     ensures { IfOk result (λ ready.
         HasTexts (repair_values words.now) netlist.now recorded.now wave.now (answer_of ready)) }
 {
-    // With it comes the fact that the times are numbers of 64 bits, as code waits for them.
-    read_times(&recorded.stim);
     let binding = &recorded.binding;
     let vcd = wave_text(alloc, wave, binding)?;
     let scope = names_of(alloc, words.job.scope)?;

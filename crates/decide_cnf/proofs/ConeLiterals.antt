@@ -41,7 +41,7 @@ passes_match t u d e (x ∷ xs) (y ∷ ys) same tests = step (t x) (u y) (tests 
     step true false e ih = cc
     step false true e ih = cc
 
-passes_before : {A : Type 0} (t : A → Bool) (d : A) (xs : List A) (p : ℕ) → p < length xs
+pub passes_before : {A : Type 0} (t : A → Bool) (d : A) (xs : List A) (p : ℕ) → p < length xs
     → t (slice_index_or xs p d) ≡ true → length (filter t (take p xs)) < length (filter t xs)
 passes_before t d [] p less passes = absurd (omega arith)
 passes_before t d (x ∷ xs) zero less passes = rw passes (omega arith)
@@ -59,13 +59,13 @@ body_ruled j c places place (Carried node inverted) is = sym (ap (λ k. not (is_
 body_ruled j c places place (Rule arguments values) is = sym (ap not is.free)
 
 -- A literal of a bit, from that of 1.
-signed_says : (n : ℕ) (inverted bit : Bool) → signed n (flipped inverted bit)
+pub signed_says : (n : ℕ) (inverted bit : Bool) → signed n (flipped inverted bit)
     ≡ says (signed n (flipped inverted true)) bit
 signed_says n inverted true = refl
 signed_says n false false = refl
 signed_says n true false = refl
 
-turned_says : (n : ℕ) (turned inverted : Bool)
+pub turned_says : (n : ℕ) (turned inverted : Bool)
     → signed n (flipped (flipped turned inverted) true) ≡ says (signed n (flipped inverted true)) (not turned)
 turned_says n false inverted = refl
 turned_says n true false = refl

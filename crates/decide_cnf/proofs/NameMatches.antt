@@ -1,9 +1,7 @@
 -- The arguments of a table by their places and by their numbers.
-use Rattle.std.proofs.Common.{◌≡◌, ℕ, zero, suc, ◌≤◌, Bool, true, List, [], ◌∷◌, ◌++◌, length, map, take, refl, sym, ap, ◌∙◌, arith, slice_index_or}
-use Rattle.std.proofs.Math.Seq.{take-length, take-suc}
-use Rattle.std.proofs.lemmas.List.{map-append}
+use Rattle.std.proofs.Common.{◌≡◌, ℕ, ◌≤◌, Bool, true, List, [], ◌∷◌, ◌++◌, length, map, refl, sym, ap, ◌∙◌, arith, slice_index_or}
+use Rattle.std.proofs.Math.Seq.{take-length}
 use Rattle.std.proofs.lemmas.List.Elements.{Contains-get_or}
-use Rattle.std.specs.List.{AllByRecursion}
 use Rattle.std.specs.List.Sorted.{IsStrictlyIncreasing}
 use Rattle.design_cell.specs.declared.value.Value.{Value}
 use Rattle.design_cell.specs.declared.value.Value.TheVariants.{X}
@@ -11,20 +9,10 @@ use Rattle.design_circuit.specs.Order.{position_of}
 use Rattle.law_model.specs.Mask.{mask_of}
 use Rattle.law_model.specs.Node.{table_of, upto}
 use Rattle.law_model.specs.Places.{among}
-use Rattle.law_model.proofs.ArgumentPositions.{Matches}
+use Rattle.law_model.proofs.ArgumentPositions.{Matches, mask_same, upto_take}
 use Rattle.law_model.proofs.ConeModels.{found_at, found_within, position_rises}
 use Rattle.law_model.proofs.FoundFillings.{mask_map}
 use Rattle.law_model.proofs.PlacesWhere.{among_all, among_contains, contains_among, in_picked, picked_in}
-
-mask_same : (places : List ℕ) (f g : ℕ → Bool) → AllByRecursion (λ k. f k ≡ g k) places
-    → mask_of places f ≡ mask_of places g
-mask_same [] f g same = refl
-mask_same (p ∷ ps) f g same = rw (same.0, mask_same ps f g same.1) refl
-
-upto_take : (xs : List ℕ) (n : ℕ) → n ≤ length xs → map (λ p. slice_index_or xs p 0) (upto n) ≡ take n xs
-upto_take xs zero within = refl
-upto_take xs (suc n) within = map-append (λ p. slice_index_or xs p 0) (upto n) (n ∷ [])
-    ∙ ap (λ ys. ys ++ slice_index_or xs n 0 ∷ []) (upto_take xs n (omega arith)) ∙ sym (take-suc xs n 0 (omega arith))
 
 module _ (names : List ℕ) (values : List Value) (table : (ℕ → Bool) → Value) (rises : IsStrictlyIncreasing names)
     (are : (bits : ℕ → Bool) → slice_index_or values (mask_of names bits) X ≡ table bits) where

@@ -5,6 +5,8 @@ use Rattle.std.specs.List.{All}
 use Rattle.std.proofs.lemmas.List.{length-map}
 use Rattle.design_circuit.specs.Fits.{place_at}
 use Rattle.sat_proof.specs.Assignment.{HasNoZero}
+use Rattle.sat_proof.specs.Log.{AreFresh, Refutes}
+use Rattle.sat_proof.specs.declared.clause.Cnf.{Cnf}
 use Rattle.law_model.specs.declared.line.Body.TheVariants.{Refuted, Undecided}
 use Rattle.decide_nodes.specs.declared.node.Node.{Node}
 use Rattle.decide_nodes.specs.Nodes.{nothing, root_bit, sources_of}
@@ -13,6 +15,7 @@ use Rattle.decide_nodes.proofs.ConeLaws.{base_law, sources_law}
 use Rattle.wave_proved.specs.Contents.{Contents, job, next_number}
 use Rattle.wave_proved.specs.Token.{HoldsNext}
 use Rattle.decide_cnf.specs.Answers.{IsFreshNext, RefutesNext}
+use Rattle.decide_cnf.specs.Query.{IsQueryOfNodes}
 
 -- A log that refutes the query shows the bit that the query denies.
 pub refuted_next : (c : Contents) (nodes : List Node) (log : List (List ℤ)) → IsNextCone c nodes → RefutesNext c log
@@ -36,3 +39,14 @@ licence_next c nodes log is fresh many long = record {
   fresh = fresh.fresh;
   long = long;
 }
+
+-- A log that refutes the query refutes that of the next place, and one that is fresh for it is fresh there.
+pub refutes_next : (c : Contents) (nodes : List Node) (cnf : Cnf) (log : List (List ℤ)) → IsNextCone c nodes
+    → IsQueryOfNodes nodes cnf → Refutes cnf.clauses log → RefutesNext c log
+refutes_next c nodes cnf log cone query refutes =
+    record { query = cnf; is_query = query c (next_number c) cone; refutes = refutes }
+
+pub fresh_next : (c : Contents) (nodes : List Node) (cnf : Cnf) (log : List (List ℤ)) → IsNextCone c nodes
+    → IsQueryOfNodes nodes cnf → AreFresh cnf.clauses log → IsFreshNext c log
+fresh_next c nodes cnf log cone query fresh =
+    record { query = cnf; is_query = query c (next_number c) cone; fresh = fresh }

@@ -1,5 +1,5 @@
 -- The clauses over the nodes of a cone are those of its query.
-use Rattle.std.proofs.Common.{◌≡◌, ◌≢◌, ℕ, zero, suc, ◌+◌, ◌-◌, ◌<◌, ◌&&◌, not, Bool, true, false, List, [], ◌∷◌, ◌++◌, length, refl, sym, ap, ◌∙◌, arith, add-one, subst, inl, inr, ⊎_elim, Contains, slice_index, length-append}
+use Rattle.std.proofs.Common.{◌≡◌, ◌≢◌, ℕ, zero, suc, ◌+◌, ◌-◌, ◌<◌, ◌&&◌, not, Bool, true, false, List, [], ◌∷◌, ◌++◌, length, refl, sym, ap, ◌∙◌, arith, subst, inl, inr, ⊎_elim, Contains, slice_index}
 use Rattle.std.specs.Prelude.{ℤ}
 use Rattle.std.proofs.Math.ListN.{get_or-append}
 use Rattle.std.proofs.Math.Seq.{get_or-append_seam}
@@ -13,7 +13,7 @@ use Rattle.design_circuit.specs.Waveform.{certain}
 use Rattle.law_model.specs.Class.{class_of, flipped}
 use Rattle.law_model.specs.Cone.{essentials, is_carried, is_essential, table}
 use Rattle.law_model.specs.Node.{NodeBody, carried, ruled, table_of, upto}
-use Rattle.law_model.specs.Places.{among, places_where}
+use Rattle.law_model.specs.Places.{among}
 use Rattle.law_model.specs.Query.{IsChoice, IsClause, IsConeClause, IsQuery, denial, literal, signed, variables}
 use Rattle.law_model.specs.Root.{Root, root_of}
 use Rattle.law_model.proofs.ArgumentPositions.{Matches, choice_matched}
@@ -28,6 +28,7 @@ use Rattle.decide_nodes.specs.Traced.{IsBodyOver, IsConeOf, IsRuledOver, turned_
 use Rattle.decide_nodes.proofs.ConeBits.{count, fits, picked, spots}
 use Rattle.decide_nodes.proofs.ConeLaws.{base_law}
 use Rattle.decide_nodes.proofs.NodeSources.{flipped_back, turned_table}
+use Rattle.decide_nodes.proofs.ConeBits.{last_place}
 use Rattle.decide_cnf.specs.Clauses.{AreQueryClauses, IsNodeClause, IsTableClause, denial_of, node_says}
 use Rattle.decide_cnf.specs.Literals.{AreLiterals, literal_at, says}
 use Rattle.decide_cnf.proofs.ConeLiterals.{node_literal}
@@ -245,15 +246,6 @@ ruled_body : (j : Job) (cert : ℕ → Value) (places : List ℕ) (place : ℕ) 
 ruled_body j cert places place (carried node inverted) is free =
     let e : true ≡ false = sym (ap is_carried is.class) ∙ free in cc
 ruled_body j cert places place (ruled arguments values) is free = (arguments, values, refl, is)
-
-last_place : (test : ℕ → Bool) (root : ℕ) → test root ≡ true
-    → slice_index (places_where test (root + 1)) (length (places_where test (root + 1)) - 1) ≡ root
-last_place test root holds =
-    let xs : List ℕ = places_where test root in
-    let whole : places_where test (root + 1) ≡ xs ++ root ∷ [] = rw (add-one, holds) refl in
-    let long : length (xs ++ root ∷ []) - 1 ≡ length xs =
-    (let l = length-append xs (root ∷ []) in omega (arith, l)) in
-    rw (whole, long) (get_or-append_seam xs root [] 0)
 
 module _ (c : Contents) (root : ℕ) (nodes : List Node) (is : IsConeOf c root nodes) (literals : List ℤ)
     (are : AreLiterals nodes literals) where

@@ -9,6 +9,7 @@
 //! `trace_at` are for one cone alone, `boundary`, `certain_boundary` and `near_places` for what its rules read.
 #![tactic(auto)]
 
+mod again;
 mod cones;
 mod descent;
 mod laws;

@@ -37,7 +37,7 @@ same_element [] p = refl
 same_element (x ∷ xs) zero = refl
 same_element (x ∷ xs) (suc p) = same_element xs p
 
-last_place : (test : ℕ → Bool) (root : ℕ) → test root ≡ true
+pub last_place : (test : ℕ → Bool) (root : ℕ) → test root ≡ true
     → slice_index (places_where test (root + 1)) (length (places_where test (root + 1)) - 1) ≡ root
 last_place test root holds =
     let xs : List ℕ = places_where test root in

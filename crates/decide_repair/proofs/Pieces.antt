@@ -7,6 +7,7 @@ use Rattle.design_circuit.specs.declared.design.Design.{Design}
 use Rattle.design_circuit.specs.declared.stim.Stim.{Stim}
 use Rattle.design_circuit.specs.History.{HistoryView}
 use Rattle.design_circuit.specs.Job.{Job, places_of}
+use Rattle.wave_proved.proofs.NextLines.{line_next}
 use Rattle.wave_proved.specs.Advance.{IsAdvanced, IsPlain}
 use Rattle.wave_proved.specs.Contents.{Contents, IsFinished, IsWave, job, next_seen, nothing_written}
 use Rattle.wave_proved.specs.Token.{IsLineNext}
@@ -15,7 +16,7 @@ use Rattle.decide_repair.specs.Step.{IsFurther}
 use Rattle.decide_repair.specs.Walk.{AreRightOf, HasLessLeft, IsWalk, left_in, start_of}
 use Rattle.decide_repair.specs.declared.aids.Aids.{Aids}
 use Rattle.decide_repair.proofs.Objecting.{job_along}
-use Rattle.decide_repair.proofs.Walking.{all_written, goes_long, job_stays, line_next}
+use Rattle.decide_repair.proofs.Walking.{all_written, goes_long, job_stays}
 use Rattle.law_model.specs.declared.limits.Limits.{Limits}
 
 -- A piece of a walk: from a wave to a later one of its job, which stands before a Line place or at the end; of so many

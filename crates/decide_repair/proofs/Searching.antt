@@ -9,12 +9,11 @@ use Rattle.law_model.specs.declared.line.Body.{Body}
 use Rattle.law_model.specs.declared.line.Body.TheVariants.{Enumerated, Refuted, Pair, Undecided}
 use Rattle.law_model.specs.declared.line.Line.{Line as ALine}
 use Rattle.sat_proof.specs.Assignment.{HasNoZero, IsModel}
-use Rattle.sat_proof.specs.Log.{AreFresh, Fit, Refutes}
+use Rattle.sat_proof.specs.Log.{Fit}
 use Rattle.sat_proof.specs.declared.clause.Cnf.{Cnf}
 use Rattle.decide_nodes.specs.declared.node.Node.{Node}
 use Rattle.decide_nodes.specs.Nodes.{nothing, root_bit}
 use Rattle.decide_nodes.specs.Traced.{IsNextCone}
-use Rattle.decide_cnf.specs.Answers.{IsFreshNext, RefutesNext}
 use Rattle.decide_cnf.specs.Literals.{variables_of}
 use Rattle.decide_cnf.specs.Models.{GivesPair, HasModel}
 use Rattle.decide_cnf.specs.Query.{IsQueryOfNodes}
@@ -24,17 +23,6 @@ use Rattle.wave_proved.specs.Token.{HasNoLog, HoldsWithoutLog, LineHolds, PairHo
 use Rattle.law_along.specs.Accepted.{AcceptsLine, BodyFits, LogFits}
 use Rattle.decide_pair.specs.Decision.{IsDecision, both_bits, one_bit}
 use Rattle.decide_pair.specs.Pairs.{pair_with}
-
--- A log that refutes the query refutes that of the next place, and one that is fresh for it is fresh there.
-pub refutes_next : (c : Contents) (nodes : List Node) (cnf : Cnf) (log : List (List ℤ)) → IsNextCone c nodes
-    → IsQueryOfNodes nodes cnf → Refutes cnf.clauses log → RefutesNext c log
-refutes_next c nodes cnf log cone query refutes =
-    record { query = cnf; is_query = query c (next_number c) cone; refutes = refutes }
-
-pub fresh_next : (c : Contents) (nodes : List Node) (cnf : Cnf) (log : List (List ℤ)) → IsNextCone c nodes
-    → IsQueryOfNodes nodes cnf → AreFresh cnf.clauses log → IsFreshNext c log
-fresh_next c nodes cnf log cone query fresh =
-    record { query = cnf; is_query = query c (next_number c) cone; fresh = fresh }
 
 -- A log over the formula's variables names those of the query.
 names_variables : (c : Contents) (nodes : List Node) (cnf : Cnf) (log : List (List ℤ)) → IsNextCone c nodes

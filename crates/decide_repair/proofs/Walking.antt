@@ -1,22 +1,18 @@
 -- How the walk goes on, and what it ends with.
-use Rattle.std.proofs.Common.{◌≡◌, ◌≤◌, ◌+◌, ◌∷◌, [], Bool, true, false, Option, Some, None, IfOk, IfErr, if◌then◌else◌, length, length-append, refl, sym, ap, ◌∙◌, arith, subst}
-use Rattle.std.specs.Prelude.{Result, Ok, Err, is_some, nat_lt}
-use Rattle.std.proofs.lemmas.Bool.{lt-ltb}
+use Rattle.std.proofs.Common.{◌≡◌, ◌≤◌, ◌+◌, ◌∷◌, [], IfOk, IfErr, if◌then◌else◌, length, length-append, refl, sym, ap, ◌∙◌, arith, subst}
+use Rattle.std.specs.Prelude.{Result, Ok, Err}
 use Rattle.decide_cone.proofs.GrownCones.{cones_go, cones_grow}
-use Rattle.design_circuit.specs.Job.{Job, job_of, places_of}
-use Rattle.design_circuit.specs.Waveform.{certain}
-use Rattle.law_model.specs.Class.{class_of}
+use Rattle.design_circuit.specs.Job.{job_of, places_of}
 use Rattle.law_model.specs.declared.class.Class.TheVariants as seen
-use Rattle.law_model.specs.declared.class.ClassByNumber.{ClassByNumber}
-use Rattle.law_model.specs.declared.class.ClassByNumber.TheVariants.{Local, Free, Carried, Line}
+use Rattle.law_model.specs.declared.class.ClassByNumber.TheVariants.{Line}
 use Rattle.design_circuit.proofs.Exact.{one_exact}
 use Rattle.law_model.proofs.Uniqueness.{sound_exact, unique_certain}
-use Rattle.wave_proved.specs.Advance.{GoesOn, IfObjects, IsAdvanced, IsObjected, IsPlain, Objects, Reports, more, plain_written, stays}
+use Rattle.wave_proved.specs.Advance.{GoesOn, IfObjects, IsAdvanced, IsObjected, Objects, Reports, more, plain_written, stays}
 use Rattle.wave_proved.specs.Advance.{with_written}
 use Rattle.wave_proved.specs.declared.advance.AdvanceErr.{AdvanceErr}
 use Rattle.wave_proved.specs.declared.advance.AdvanceErr.TheVariants as stopped
-use Rattle.wave_proved.specs.Contents.{Contents, IsFinished, IsWave, class_or_done, job, next_seen, shown_in}
-use Rattle.wave_proved.specs.Token.{HasNext, IsLineNext, LineAgrees, LineContradicts, LineHolds, with_line, written_by_line}
+use Rattle.wave_proved.specs.Contents.{Contents, IsFinished, IsWave, job, shown_in}
+use Rattle.wave_proved.specs.Token.{IsLineNext, LineAgrees, LineContradicts, LineHolds, with_line, written_by_line}
 use Rattle.law_model.specs.declared.line.Line.{Line as ALine}
 use Rattle.law_along.specs.Accepted.{AcceptsLine}
 use Rattle.law_along.specs.Along.{GoesAlong, by_line}
@@ -63,25 +59,6 @@ goes_long (more {c = c} goes plain agrees) =
     let up = goes_long goes in
     let long = length-append c.written (plain_written c ∷ []) in
     omega (arith, up, long)
-
--- Where a wave has stopped and there is a next place, that is a Line place.
-line_by : (j : Job) (found : Option ClassByNumber) → is_some found ≡ true → (IsPlain (class_or_done j found) → ⊥)
-    → class_or_done j found ≡ seen.Line
-line_by j None some stops = cc
-line_by j (Some (Local bit)) some stops = absurd (stops tt)
-line_by j (Some Free) some stops = absurd (stops tt)
-line_by j (Some (Carried from inverted)) some stops = absurd (stops tt)
-line_by j (Some Line) some stops = refl
-
-there_is : (less : Bool) (class : ClassByNumber) → less ≡ true → is_some (if less then Some class else None) ≡ true
-there_is true class is = refl
-there_is false class is = cc
-
-pub line_next : (c : Contents) → HasNext c → (IsPlain (next_seen c) → ⊥) → IsLineNext c
-line_next c next stops =
-    line_by (job c) _
-    (there_is (nat_lt (length c.written) (places_of (job c))) (class_of (job c) (certain c.written) (length c.written))
-    (lt-ltb (length c.written) (places_of (job c)) next)) stops
 
 -- There is one place more.
 pub one_more : (a b : Contents) → IsNextOf a b → length b.written ≡ length a.written + 1

@@ -1,48 +1,22 @@
 -- The lines of a wave, by the numbers of their places.
-use Rattle.std.proofs.Common.{◌≡◌, ℕ, zero, suc, ◌<◌, Some, List, [], ◌∷◌, length, sym, refl, ◌∙◌, arith, subst, slice_index, slice_index_or}
-use Rattle.std.specs.List.{AllByRecursion}
+use Rattle.std.proofs.Common.{◌≡◌, ℕ, zero, suc, ◌<◌, Some, List, [], ◌∷◌, length, refl, ◌∙◌, arith, slice_index, slice_index_or}
 use Rattle.std.proofs.lemmas.Bool.{eq-eqb, ne_eqb}
 use Rattle.std.proofs.lemmas.List.{length-map}
 use Rattle.std.proofs.lemmas.List.Kept.{AllPairs-from_increasing}
-use Rattle.design_circuit.specs.Filling.{IsFilling, IsPlace}
-use Rattle.design_circuit.specs.Job.{Job, number_of, places_of}
-use Rattle.design_circuit.specs.Waveform.{certain}
-use Rattle.design_circuit.proofs.Numbers.{filling_at}
-use Rattle.law_model.specs.Class.{class_of}
+use Rattle.design_circuit.specs.Filling.{IsFilling}
+use Rattle.design_circuit.specs.Job.{Job, number_of}
 use Rattle.law_model.specs.Stated.{body_at}
-use Rattle.law_model.specs.Yields.{is_line, line_places, places_of_lines}
+use Rattle.law_model.specs.Yields.{places_of_lines}
 use Rattle.law_model.specs.declared.line.Line.{Line as ALine}
-use Rattle.law_model.proofs.AssignmentNumbers.{along}
-use Rattle.law_model.proofs.PlacesWhere.{picked_below, picked_rises}
+use Rattle.wave_proved.proofs.FoundLines.{lines_in_order}
 use Rattle.wave_proved.specs.Contents.{Contents, IsWave, job}
 use Rattle.wave_proved.specs.Pairs.{numbers_of}
 
 -- Their places are those of the job's Line places, in place order.
 pub lines_placed : (c : Contents) → IsWave c → IsFilling (job c) (places_of_lines c.lines)
 lines_placed c wave =
-    subst (IsFilling (job c)) (sym wave.holds.yields.places)
-    (filling_at (job c) numbers wave.fits.fits_job.ordering wave.fits.fits_job.all within
-    (picked_rises (λ place. is_line (class_of (job c) (certain c.written) place)) (length c.written)))
-  where
-    numbers : List ℕ
-    numbers = line_places (job c) (certain c.written) (length c.written)
-
-    within : AllByRecursion (λ k. k < places_of (job c)) numbers
-    within = let up = wave.holds.sound.within in
-        along (λ k. k < length c.written) (λ k. k < places_of (job c)) numbers (λ k less. omega arith)
-        (picked_below (λ place. is_line (class_of (job c) (certain c.written) place)) (length c.written))
-
-pub place_here : (j : Job) (lines : List ALine) (i : ℕ) (d : ALine) → i < length lines
-    → AllByRecursion (IsPlace j) (places_of_lines lines) → IsPlace j (slice_index_or lines i d).place
-place_here j [] i d within all = absurd (omega arith)
-place_here j (first ∷ lines) zero d within all = all.0
-place_here j (first ∷ lines) (suc i) d within all = place_here j lines i d (omega arith) all.1
-
-pub number_here : (j : Job) (lines : List ALine) (i : ℕ) (d : ALine) → i < length lines
-    → slice_index (numbers_of j lines) i ≡ number_of j (slice_index_or lines i d).place
-number_here j [] i d within = absurd (omega arith)
-number_here j (first ∷ lines) zero d within = refl
-number_here j (first ∷ lines) (suc i) d within = number_here j lines i d (omega arith)
+    let ordered = lines_in_order c wave in
+    record { places = ordered.places; ascending = ordered.ascending }
 
 -- The first line of a number says what there is of it.
 body_here : (j : Job) (lines : List ALine) (i : ℕ) (d : ALine) (number : ℕ) → i < length lines

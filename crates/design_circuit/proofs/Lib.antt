@@ -10,6 +10,7 @@ pub mod Numbers
 pub mod OrderLemmas
 pub mod OrdersFit
 pub mod Pins
+pub mod PlaceNumbers
 pub mod Prefix
 pub mod Reaching
 pub mod Replays

@@ -1,6 +1,7 @@
 //! What drives the inputs of a design, and what its registers start with.
 
-ghost use Rattle.std.specs.Prelude.{◌≡◌, ◌<◌, ◌≤◌, ◌^◌, length};
+ghost use Rattle.std.specs.Prelude.{◌≡◌, ◌<◌, ◌≤◌, ◌^◌, All, length};
+ghost use Rattle.std.proofs.Props.{props};
 
 use base_lists::Items;
 use design_cell::Value;
@@ -50,4 +51,5 @@ pub struct Stim {
     ghost some_round: { 0 < rounds },
     ghost few_rounds: { rounds ≤ 16 },
     ghost rows: { length inputs ≡ length times },
+    ghost small_times: { All (λ time. time < 2 ^ 64) times } by { Prim.hlevel props },
 }

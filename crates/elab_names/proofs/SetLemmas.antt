@@ -21,14 +21,14 @@ pub added_is : (keys more : List (Bor (List ℕ))) (k : Bor (List ℕ)) (there f
 added_is keys more k true fresh is new grown = rw new (ap (map (λ (x : Bor (List ℕ)). x.now)) grown)
 added_is keys more k false fresh is new grown = rw new (ap (map (λ (x : Bor (List ℕ)). x.now)) grown ∙ now_append keys k)
 
-bytes_same : (a b : List ℕ) → bytes_eq a b ≡ true → a ≡ b
+pub bytes_same : (a b : List ℕ) → bytes_eq a b ≡ true → a ≡ b
 bytes_same a b h = (bytes_eq-Decides a b).0 h
 
-or_false : (b : Bool) → (b || false) ≡ b
+pub or_false : (b : Bool) → (b || false) ≡ b
 or_false true = refl
 or_false false = refl
 
-or_assoc : (a b c : Bool) → ((a || b) || c) ≡ (a || (b || c))
+pub or_assoc : (a b c : Bool) → ((a || b) || c) ≡ (a || (b || c))
 or_assoc true b c = refl
 or_assoc false b c = refl
 

@@ -1,21 +1,11 @@
 -- A set of names means the list of them.
 use Rattle.std.proofs.Common.{◌≡◌, ℕ, ◌+◌, ◌<◌, Bool, true, false, List, [], ◌∷◌, ◌++◌, length, take, get_or, refl, sym, ◌∙◌, ap, subst, bytes_eq, if◌then◌else◌, ◌||◌, ◌&&◌, not, Bor}
 use Rattle.std.proofs.lemmas.Bool.{not-false}
-use Rattle.std.proofs.lemmas.Slice.Eq.{bytes_eq-Decides}
 use Rattle.elab_names.specs.Sets.{has}
 use Rattle.std.proofs.lemmas.List.{take_more, map-append}
+pub use Rattle.elab_names.proofs.SetLemmas.{bytes_same}
+use Rattle.elab_names.proofs.SetLemmas.{or_assoc, or_false}
 use Rattle.elab_prims.specs.Names.{HasAll, texts, are_among}
-
-pub bytes_same : (a b : List ℕ) → bytes_eq a b ≡ true → a ≡ b
-bytes_same a b h = (bytes_eq-Decides a b).0 h
-
-or_false : (b : Bool) → (b || false) ≡ b
-or_false true = refl
-or_false false = refl
-
-or_assoc : (a b c : Bool) → ((a || b) || c) ≡ (a || (b || c))
-or_assoc true b c = refl
-or_assoc false b c = refl
 
 has_push : (names : List (List ℕ)) (name q : List ℕ) → has (names ++ name ∷ []) q ≡ (has names q || bytes_eq q name)
 has_push [] name q = or_false (bytes_eq q name)

@@ -73,12 +73,12 @@ choice_matched a b table other m chosen bits bit is = record {
       (sym (m.forth i own.0) ∙ ap m.from e ∙ m.forth k parts.0)))))));
 }
 
-mask_same : (places : List ℕ) (f g : ℕ → Bool) → AllByRecursion (λ k. f k ≡ g k) places
+pub mask_same : (places : List ℕ) (f g : ℕ → Bool) → AllByRecursion (λ k. f k ≡ g k) places
     → mask_of places f ≡ mask_of places g
 mask_same [] f g same = refl
 mask_same (p ∷ ps) f g same = rw (same.0, mask_same ps f g same.1) refl
 
-upto_take : (xs : List ℕ) (n : ℕ) → n ≤ length xs → map (λ p. slice_index_or xs p 0) (upto n) ≡ take n xs
+pub upto_take : (xs : List ℕ) (n : ℕ) → n ≤ length xs → map (λ p. slice_index_or xs p 0) (upto n) ≡ take n xs
 upto_take xs zero within = refl
 upto_take xs (suc n) within = map-append (λ p. slice_index_or xs p 0) (upto n) (n ∷ [])
     ∙ ap (λ ys. ys ++ slice_index_or xs n 0 ∷ []) (upto_take xs n (omega arith)) ∙ sym (take-suc xs n 0 (omega arith))

@@ -1,6 +1,6 @@
 -- A place whose net's place a step before is quiet is quiet, unless it is stirred.
 use Rattle.std.proofs.Common.{◌≡◌, ℕ, zero, suc, ◌-◌, ◌<◌, ◌==◌, ◌&&◌, ◌||◌, not, Bool, true, false, List, [], ◌∷◌}
-use Rattle.std.proofs.Common.{refl, sym, ap, ◌∙◌, arith, subst, ⊎_elim}
+use Rattle.std.proofs.Common.{refl, sym, ap, ◌∙◌, arith, subst}
 use Rattle.std.specs.List.{AllByRecursion, list_all}
 use Rattle.std.proofs.lemmas.Bool.{and_parts, eq-eqb, ne_eqb}
 use Rattle.design_cell.specs.declared.value.Value.{Value}
@@ -17,21 +17,22 @@ use Rattle.design_circuit.specs.Fits.{Fits, FitsDriver}
 use Rattle.design_circuit.specs.Job.{Job, net_of, places_of, step_of}
 use Rattle.design_circuit.specs.Order.{net_pins}
 use Rattle.design_circuit.specs.Register.{had_uncertain_clock, has_uncertain_clock, has_unknown_clock, old_pins, pins_at}
-use Rattle.design_circuit.specs.Rule.{arguments, rule}
+use Rattle.design_circuit.specs.Rule.{rule}
 use Rattle.design_circuit.proofs.Rules.{rule_reads, spot}
 use Rattle.design_circuit.proofs.LevelRule.{clock_never}
 use Rattle.design_circuit.proofs.TwoBack.{old_later}
 use Rattle.law_model.specs.Assignment.{assigned, for_every}
-use Rattle.law_model.specs.Class.{before, class_of, flipped, is_bit, is_never_unknown, keeps, passes_on, passes_on_of}
+use Rattle.law_model.specs.Class.{before, class_of, is_bit, is_never_unknown, keeps, passes_on_of}
 use Rattle.law_model.specs.declared.class.ClassByNumber.{ClassByNumber}
 use Rattle.law_model.specs.declared.class.ClassByNumber.TheVariants.{Local, Free, Carried, Line}
 use Rattle.law_model.proofs.Assignments.{every_passes, passes_every}
 use Rattle.law_model.proofs.CarryLaw.{net_at, step_at}
 use Rattle.law_model.proofs.ClassFromClasses.{class_is}
-use Rattle.law_model.proofs.Classes.{ClassSays, all_at, class_says}
+use Rattle.law_model.proofs.Classes.{ClassSays, class_says}
 use Rattle.wave_class.specs.Facts.{AgreeBefore}
 use Rattle.wave_class.specs.Keeps.{nets_keep}
 use Rattle.wave_class.proofs.MovedRules.{SameAt, values_moved}
+use Rattle.wave_class.proofs.SteadyClasses.{copy_known}
 use Rattle.law_quiet.specs.Due.{IsDue, IsStirred, driver_of, is_clocked}
 use Rattle.law_quiet.specs.Ahead.{CalmLaw, CellLaw, IsAhead, IsCarriedOrLocal, IsStirredFrom, StaysLaw, is_calm}
 use Rattle.law_quiet.specs.Ahead.{is_calm_of, taken_on}
@@ -245,26 +246,12 @@ local_calm j c place bit local = passes_every j c place (λ bits. not (is_unknow
     (every_passes j c place (λ b. is_bit (rule j c b place) bit)
     (λ f g agree. ap (λ v. is_bit v bit) (rule_reads j c f g place agree)) local bits))
 
-carried_calm : (j : Job) (c : ℕ → Value) (place from : ℕ) (inverted : Bool)
-    → ClassSays j c (class_of j c) place (Carried from inverted)
-    → (passes_on j c (class_of j c) place ≡ true → is_never_unknown j c place ≡ true)
-    → is_never_unknown j c place ≡ true
-carried_calm j c place from inverted says passes =
-    ⊎_elim (λ h. passes h.0) (λ h. passes_every j c place (λ bits. not (is_unknown (rule j c bits place)))
-    (λ bits. bit_known (rule j c (assigned c bits) place) (flipped inverted (assigned c bits from))
-    (every_passes j c place (λ b. is_bit (rule j c b place) (flipped inverted (b from)))
-    (λ f g agree. (rw (rule_reads j c f g place agree, all_at (λ k. f k ≡ g k) (arguments j c place) from agree h.0)
-    refl))
-    (and_parts (is_unknown (c from))
-    (for_every j c place (λ bits. is_bit (rule j c bits place) (flipped inverted (bits from)))) h.1).1 bits)))
-    says
-
 calm_by : (j : Job) (c : ℕ → Value) (place : ℕ) (table : Table) (pins : List Pin) (class : ClassByNumber)
     → driver_of j place ≡ Cell table pins → IsCarriedOrLocal class → ClassSays j c (class_of j c) place class
     → is_never_unknown j c place ≡ true
 calm_by j c place table pins (Local bit) driver kind says = local_calm j c place bit says
 calm_by j c place table pins Free driver kind says = absurd kind
-calm_by j c place table pins (Carried from inverted) driver kind says = carried_calm j c place from inverted says
+calm_by j c place table pins (Carried from inverted) driver kind says = copy_known j c place from inverted says
     (λ passes. (and_parts (not (step_of j place == 0) && nets_keep j c (step_of j place) (net_pins pins))
     (is_never_unknown j c place)
     (sym (ap (passes_on_of j c (class_of j c) place (step_of j place) (net_of j place)) driver) ∙ passes)).1)

@@ -12,7 +12,7 @@ pub use laws::{
     quiet_places_stay, quiet_runs_repeat, steps_are_swept,
 };
 pub use wave_class::{
-    ArgumentsByNumber, Earlier, argument_places, cell_chooses, class_at, keeps_here, kept_class,
-    place_before, rule_value,
+    ArgumentsByNumber, Asked, Earlier, argument_places, cell_chooses, class_at, keeps_here,
+    kept_class, place_before, rule_value,
 };
 pub use worked::quiet_by_hand;

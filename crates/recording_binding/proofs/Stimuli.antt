@@ -2,7 +2,8 @@
 use mathlib.Core.HLevel.{is_prop→PathP}
 use native.Mathlib.Bridge.{le_prop}
 use native.Mathlib.Nat.{ℕ_set}
-use Rattle.std.proofs.Common.{◌≡◌, ◌∙◌, ℕ, ◌<◌, ◌≤◌, ◌^◌, List, [], Option, length, sym, arith, slice_index_or}
+use Rattle.std.proofs.Common.{◌≡◌, ◌∙◌, ℕ, ◌<◌, ◌≤◌, ◌^◌, List, [], Option, All, length, sym, arith, slice_index_or}
+use Rattle.std.proofs.Props.{props}
 use Rattle.std.proofs.lemmas.List.{ext_get_or}
 use Rattle.design_cell.specs.declared.value.Value.{Value}
 use Rattle.design_cell.specs.declared.value.Value.TheVariants.{X}
@@ -21,7 +22,7 @@ one_row design value a b first second =
     (λ net within. first.values net (omega (arith, long, within)) ∙ sym (second.values net (omega (arith, long, within))))
 
 -- Stimuli with the same data are the same: what is always true of one has one proof.
-one_stim_by : (a b : Stim) → a.times ≡ b.times → a.rounds ≡ b.rounds → a.inputs ≡ b.inputs → a.rules ≡ b.rules → a.starts ≡ b.starts → a ≡ b
+pub one_stim_by : (a b : Stim) → a.times ≡ b.times → a.rounds ≡ b.rounds → a.inputs ≡ b.inputs → a.rules ≡ b.rules → a.starts ≡ b.starts → a ≡ b
 one_stim_by a b times rounds inputs rules starts = λ i. record {
   times = times i;
   rounds = rounds i;
@@ -33,6 +34,7 @@ one_stim_by a b times rounds inputs rules starts = λ i. record {
   some_round = is_prop→PathP (λ k. 0 < rounds k) (λ k. le_prop) a.some_round b.some_round i;
   few_rounds = is_prop→PathP (λ k. rounds k ≤ 16) (λ k. le_prop) a.few_rounds b.few_rounds i;
   rows = is_prop→PathP (λ k. length (inputs k) ≡ length (times k)) (λ k. ℕ_set (length (inputs k)) (length (times k))) a.rows b.rows i;
+  small_times = is_prop→PathP (λ k. All (λ time. time < 2 ^ 64) (times k)) (λ k. Prim.hlevel props) a.small_times b.small_times i;
 }
 
 module _ (design : Design) (recording : Recording) (holder : ℕ → Option Holder) (rounds : ℕ) (rules : RegisterRules) (a b : Stim)

@@ -45,7 +45,7 @@ pub fn stim_of(
     ensures stim { IfOk result (spec.IsStimOf design.now recording.now (held_in holders.now) rounds rules) }
     ensures fits { IfOk result (FitsStim design.now) }
 {
-    let times = recording.times().to_vec(alloc)?;
+    let times = copied(alloc, recording.times())?;
     let inputs = rows_of(alloc, design, recording, holders)?;
     let starts = starts_of(alloc, design, recording, holders, rules.start)?;
     Ok(Stim {
@@ -55,6 +55,14 @@ pub fn stim_of(
         rules,
         starts: Items::from_vec(starts),
     })
+}
+
+/// The same times.
+fn copied(alloc: Global, times: &[u64]) -> Result<Vec<u64>, Memory>
+    ensures same { IfOk result (λ copy. copy.items ≡ times.now) }
+    ensures small { IfOk result (λ copy. All (λ time. time < 2 ^ 64) copy.items) }
+{
+    Ok(times.to_vec(alloc)?)
 }
 
 /// For each moment the value of each input, and x for any other net.

@@ -2,14 +2,14 @@
 use Rattle.std.proofs.Common.{◌≡◌, ℕ, zero, suc, ◌+◌, ◌-◌, ◌*◌, ◌/◌, ◌%◌, ◌<◌, ◌≤◌, ◌==◌, Bool, true, false, Option, None, Some, List, [], ◌∷◌, ◌++◌, slice_index, refl, sym, ap, ◌∙◌, subst, arith, ⊎_elim, append_assoc, append-nil, true≢false, if◌then◌else◌}
 use Rattle.std.proofs.lemmas.Bool.{cases_Bool, cases_lt, cond-false, cond-true, eq-eqb, eqb-true, ne_eqb}
 use Rattle.std.proofs.lemmas.Nat.{div-add-mod', mod-mul-add}
-use Rattle.std.proofs.Math.Nat.{mod-lt, mul-le-mul_right}
+use Rattle.std.proofs.Math.Nat.{mod-lt}
 use Rattle.design_cell.specs.declared.value.Value.{Value}
 use Rattle.design_circuit.specs.Fits.{Fits}
 use Rattle.design_circuit.specs.Job.{Job, net_of, places_of}
 use Rattle.design_circuit.specs.declared.force.Event.{Event}
 use Rattle.design_circuit.proofs.Rules.{some_width}
 use Rattle.replay_forces.specs.Changes.{change_at, changes, event_of, forced_before, is_same_force, unless_same}
-use Rattle.replay_forces.proofs.Rows.{first_step, later_step}
+use Rattle.replay_forces.proofs.Rows.{between, first_step, later_step}
 use Rattle.replay_forces.proofs.Sameness.{same_force}
 use Rattle.replay_code.specs.Statements.{forced_now}
 use Rattle.replay_code.proofs.Events.{forced_more}
@@ -51,19 +51,7 @@ one_later n w some =
     ap (λ k. k % w) next ∙ mod-mul-add (n / w + 1) w (n % w) (mod-lt n some)
 
 differ : (n k w : ℕ) → n < k → k < n + w → k % w ≡ n % w → ⊥
-differ n k w from below same = ⊎_elim late early (cases_lt (n / w) (k / w))
-  where
-    first : n / w * w + n % w ≡ n
-    first = div-add-mod' n w
-
-    second : k / w * w + k % w ≡ k
-    second = div-add-mod' k w
-
-    late : n / w < k / w → ⊥
-    late less = let more : (n / w + 1) * w ≤ k / w * w = mul-le-mul_right w (omega (arith, less)) in omega (arith, first, second, more, same, below)
-
-    early : k / w ≤ n / w → ⊥
-    early more = let few : k / w * w ≤ n / w * w = mul-le-mul_right w more in omega (arith, first, second, few, same, from)
+differ n k w from below same = between n k w (omega (arith, from)) below same
 
 -- Behind the changes of the first places each net is forced as one step before its next place.
 last_forced : (j : Job) → Fits j → (f : ℕ → Option Value) (n : ℕ) → n ≤ places_of j → (k : ℕ) → n ≤ k → k < n + j.width → forced_now (changes j f n) (net_of j k) ≡ forced_before j f k

@@ -1,6 +1,5 @@
 -- The text that is written of forces says them.
-use Rattle.std.proofs.Common.{◌≡◌, ℕ, zero, suc, ◌*◌, ◌/◌, ◌<◌, ◌≤◌, ◌^◌, true, Result, Some, List, [], ◌∷◌, ◌++◌, codes, length, get_or, refl, sym, ◌∙◌, subst, arith, append_assoc, append-nil}
-use Rattle.std.specs.List.{AllByRecursion}
+use Rattle.std.proofs.Common.{◌≡◌, ℕ, suc, ◌*◌, ◌/◌, ◌<◌, ◌≤◌, true, Result, Some, List, [], ◌∷◌, ◌++◌, codes, length, refl, sym, ◌∙◌, subst, arith, append_assoc, append-nil}
 use Rattle.std.specs.List.Sorted.{IsStrictlyIncreasing}
 use Rattle.std.proofs.lemmas.Nat.{div-add-mod'}
 use Rattle.std.proofs.Math.Nat.{div-lt_iff_lt-mul}
@@ -16,7 +15,7 @@ use Rattle.replay_history.specs.Forced.{AreOrdered, event_at}
 use Rattle.replay_history.proofs.Forces.{in_order}
 use Rattle.replay_code.specs.Clock.{clock_at, start, moment_at}
 use Rattle.replay_code.specs.Code.{Code, code, job}
-use Rattle.replay_code.specs.Laws.{HasSmallTimes, OwnCodeIsRead, OwnIsRead}
+use Rattle.replay_code.specs.Laws.{OwnCodeIsRead, OwnIsRead}
 use Rattle.replay_code.specs.Machine.{Progress, begun}
 use Rattle.replay_code.specs.Names.{are_writable, code_name}
 use Rattle.replay_code.specs.Says.{CodeSays, IsRead}
@@ -33,12 +32,11 @@ use Rattle.replay_code.proofs.Stepping.{after_mark, after_word, body_ends, moved
 use Rattle.replay_code.proofs.Waiting.{IsBefore, before_step, moment_there, waits_lead}
 use Rattle.replay_code.proofs.Writing.{can_be_written}
 
--- The code can be written: its scope, its design and its times fit.
+-- The code can be written: its scope and its design fit, and its times ascend.
 record CanBeRead (c : Code) : Type 0 where
   writable : are_writable c.scope ≡ true
   fits : FitsDesign c.design
   up : IsStrictlyIncreasing c.stim.times
-  small : HasSmallTimes c.stim
 
 -- The steps of events never fall, from this one on.
 abbrev NeverFall : ℕ → List Event → Type 0
@@ -54,11 +52,6 @@ never_fall from (event ∷ events) first steps =
 abbrev ComesBefore : Code → Clock → ℕ → Type 0
 ComesBefore c now from = (step : ℕ) → from ≤ step → step / c.stim.rounds < length c.stim.times → IsBefore now (clock_at c.stim step)
 
-small_at : (times : List ℕ) (k : ℕ) → AllByRecursion (λ time. time < 2 ^ 64) times → k < length times → get_or times k 0 < 2 ^ 64
-small_at [] k all within = absurd (omega arith)
-small_at (time ∷ times) zero all within = all.0
-small_at (time ∷ times) (suc k) all within = small_at times k all.1 (omega arith)
-
 moment_within : (stim : Stim) (step : ℕ) → step < length stim.times * stim.rounds → step / stim.rounds < length stim.times
 moment_within stim step within = (div-lt_iff_lt-mul stim.some_round).1 within
 
@@ -67,7 +60,7 @@ lines_lead : (p : Progress) (now : Clock) (from : ℕ) (left : List Event) (tail
 lines_lead p now from [] tail events can has rises forced comes time moment round leads = leads p (sym (append-nil p.events))
 lines_lead p now from (event ∷ left) tail events can has rises forced comes time moment round leads =
     subst (λ (l : List ℕ). Leads p.code.text Body p l events) (sym shape)
-    (waits_lead p now event.step (event_line name event.value ++ rest) events can.up within (small_at p.code.stim.times (event.step / p.code.stim.rounds) can.small within) (comes event.step rises.0 within) time moment round
+    (waits_lead p now event.step (event_line name event.value ++ rest) events can.up within (p.code.stim.small_times (event.step / p.code.stim.rounds) 0 within) (comes event.step rises.0 within) time moment round
     (event_leads here (event.step / p.code.stim.rounds) event rest events can.writable can.fits has.0.net refl (div-add-mod' event.step p.code.stim.rounds) forced.0 (λ forces at texts index.
     lines_lead (told here forces at texts index (p.events ++ event ∷ [])) then_at event.step left tail events can has.1 rises.1 forced.1
     (λ step later below. before_step p.code.stim event.step step can.up later below) refl (sym (moment_there p.code.stim event.step can.up within)) refl
@@ -134,20 +127,20 @@ text_leads c forces can has rises forced =
     before step later within = record { time = omega arith; round = λ same. omega arith }
 
 pub own_says : OwnCodeIsRead
-own_says design order stim scope forces parts fits writable small own =
+own_says design order stim scope forces parts fits writable own =
     let j = job_of design order stim in
     let are : AreEvents j forces = subst (AreEvents j) (sym own) (are_events j parts.fits_job (forced_by j forces)) in
     let released : AllReleaseForced [] forces = subst (AllReleaseForced []) (sym own) (changes_release_forced j parts.fits_job (forced_by j forces) (places_of j) (omega arith)) in
     let ordered : AreOrdered j.width forces = in_order j parts.fits_job forces are in
     let c = code (code_text design stim scope forces) design order stim scope in
-    let from = text_leads c forces record { writable = writable; fits = fits; up = parts.fits_stim.times; small = small } (can_be_written design order stim forces are) (never_fall 0 forces (λ i within. omega arith) ordered.steps) released 0 refl in
+    let from = text_leads c forces record { writable = writable; fits = fits; up = parts.fits_stim.times } (can_be_written design order stim forces are) (never_fall 0 forces (λ i within. omega arith) ordered.steps) released 0 refl in
     code_says c forces fits record { left = from.left; tokens = from.tokens; statements = forces; read = from.run; are = own }
 
 -- So a text that is what is written of forces says them.
-pub own_text_says : (c : Code) (forces : List Event) → PartsFit c.design c.order c.stim → FitsDesign c.design → are_writable c.scope ≡ true → HasSmallTimes c.stim → forces ≡ changes_by (job c) forces → c.text ≡ code_text c.design c.stim c.scope forces → CodeSays c forces
-own_text_says c forces parts fits writable small own is =
-    subst (λ (text : List ℕ). CodeSays (code text c.design c.order c.stim c.scope) forces) (sym is) (own_says c.design c.order c.stim c.scope forces parts fits writable small own)
+pub own_text_says : (c : Code) (forces : List Event) → PartsFit c.design c.order c.stim → FitsDesign c.design → are_writable c.scope ≡ true → forces ≡ changes_by (job c) forces → c.text ≡ code_text c.design c.stim c.scope forces → CodeSays c forces
+own_text_says c forces parts fits writable own is =
+    subst (λ (text : List ℕ). CodeSays (code text c.design c.order c.stim c.scope) forces) (sym is) (own_says c.design c.order c.stim c.scope forces parts fits writable own)
 
 -- What a text says is read, so its own forces are.
-pub own_is_read : (c : Code) (result : Result (List Event) CodeErr) → PartsFit c.design c.order c.stim → FitsDesign c.design → HasSmallTimes c.stim → IsRead c result → OwnIsRead c result
-own_is_read c result parts fits small read forces writable own is = read forces (own_text_says c forces parts fits writable small own is)
+pub own_is_read : (c : Code) (result : Result (List Event) CodeErr) → PartsFit c.design c.order c.stim → FitsDesign c.design → IsRead c result → OwnIsRead c result
+own_is_read c result parts fits read forces writable own is = read forces (own_text_says c forces parts fits writable own is)

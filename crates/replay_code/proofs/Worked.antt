@@ -1,5 +1,6 @@
 -- Texts of small codes, worked out by hand.
-use Rattle.std.proofs.Common.{◌≡◌, ℕ, false, Option, None, Some, Ok, Err, List, [], ◌∷◌, ◌++◌, codes, decimal, refl, ap, ◌∙◌, lit<, lit≤}
+use Rattle.std.proofs.Common.{◌≡◌, ℕ, ◌<◌, ◌^◌, false, Option, None, Some, Ok, Err, List, [], ◌∷◌, ◌++◌, codes, decimal, refl, ap, ◌∙◌, lit<, lit≤}
+use Rattle.std.proofs.lemmas.List.Elements.{All-from_recursion}
 use Rattle.std.proofs.lemmas.Fmt.{decimal_digit, decimal_step}
 use Rattle.design_cell.specs.declared.value.Value.{Value}
 use Rattle.design_cell.specs.declared.value.Value.TheVariants.{Zero, One}
@@ -27,13 +28,13 @@ abbrev net : List ℕ → Net
 net name = record { path = record { parts = record { text = name; escaped = false } ∷ []; bit = None }; driver = Input }
 
 abbrev one_moment : Stim
-one_moment = record { times = 0 ∷ []; rounds = 4; inputs = [] ∷ []; rules = record { start = Cold; levels = Change }; starts = []; some_moment = lit< tt; few_moments = lit< tt; some_round = lit< tt; few_rounds = lit≤ tt; rows = refl }
+one_moment = record { times = 0 ∷ []; rounds = 4; inputs = [] ∷ []; rules = record { start = Cold; levels = Change }; starts = []; some_moment = lit< tt; few_moments = lit< tt; some_round = lit< tt; few_rounds = lit≤ tt; rows = refl; small_times = All-from_recursion (λ time. time < 2 ^ 64) (0 ∷ []) (lit< tt, tt) }
 
 abbrev two_moments : Stim
-two_moments = record { times = 0 ∷ 10 ∷ []; rounds = 4; inputs = [] ∷ [] ∷ []; rules = record { start = Cold; levels = Change }; starts = []; some_moment = lit< tt; few_moments = lit< tt; some_round = lit< tt; few_rounds = lit≤ tt; rows = refl }
+two_moments = record { times = 0 ∷ 10 ∷ []; rounds = 4; inputs = [] ∷ [] ∷ []; rules = record { start = Cold; levels = Change }; starts = []; some_moment = lit< tt; few_moments = lit< tt; some_round = lit< tt; few_rounds = lit≤ tt; rows = refl; small_times = All-from_recursion (λ time. time < 2 ^ 64) (0 ∷ 10 ∷ []) (lit< tt, (lit< tt, tt)) }
 
 abbrev three_moments : Stim
-three_moments = record { times = 0 ∷ 10 ∷ 20 ∷ []; rounds = 4; inputs = [] ∷ [] ∷ [] ∷ []; rules = record { start = Cold; levels = Change }; starts = []; some_moment = lit< tt; few_moments = lit< tt; some_round = lit< tt; few_rounds = lit≤ tt; rows = refl }
+three_moments = record { times = 0 ∷ 10 ∷ 20 ∷ []; rounds = 4; inputs = [] ∷ [] ∷ [] ∷ []; rules = record { start = Cold; levels = Change }; starts = []; some_moment = lit< tt; few_moments = lit< tt; some_round = lit< tt; few_rounds = lit≤ tt; rows = refl; small_times = All-from_recursion (λ time. time < 2 ^ 64) (0 ∷ 10 ∷ 20 ∷ []) (lit< tt, (lit< tt, (lit< tt, tt))) }
 
 abbrev event : ℕ → ℕ → Option Value → Event
 event step net value = record { step = step; net = net; value = value }

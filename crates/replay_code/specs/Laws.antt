@@ -1,6 +1,5 @@
 -- Laws of code: what the grammar says is what the machine reads, and what is written of forces is read as these.
-use Rattle.std.specs.Prelude.{◌≡◌, ℕ, ◌<◌, ◌^◌, true, Result, List, MatchResult}
-use Rattle.std.specs.List.{AllByRecursion}
+use Rattle.std.specs.Prelude.{◌≡◌, ℕ, true, Result, List, MatchResult}
 use Rattle.design_circuit.specs.Parts.{PartsFit}
 use Rattle.design_circuit.specs.Design.{FitsDesign}
 use Rattle.design_circuit.specs.Job.{job_of}
@@ -21,14 +20,10 @@ abbrev pub GrammarIsRead : Type 0
 GrammarIsRead = (c : Code) (forces : List Event) → FitsDesign c.design
     → (CodeSays c forces → MachineSays c forces) × (MachineSays c forces → CodeSays c forces)
 
--- The times of a stimulus are numbers of 64 bits, as the type of its times has them.
-abbrev pub HasSmallTimes : Stim → Type 0
-HasSmallTimes stim = AllByRecursion (λ time. time < 2 ^ 64) stim.times
-
 -- The text that is written of forces says them, where they are their own changes and the scope's names can be written.
 abbrev pub OwnCodeIsRead : Type 0
 OwnCodeIsRead = (design : Design) (order : List ℕ) (stim : Stim) (scope : Texts) (forces : List Event)
-    → PartsFit design order stim → FitsDesign design → are_writable scope ≡ true → HasSmallTimes stim
+    → PartsFit design order stim → FitsDesign design → are_writable scope ≡ true
     → forces ≡ changes_by (job_of design order stim) forces
     → CodeSays (code (code_text design stim scope forces) design order stim scope) forces
 

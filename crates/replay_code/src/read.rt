@@ -11,7 +11,6 @@ ghost use Rattle.replay_code.specs.Says.{CodeSays, FirstFault, IsRead};
 
 use crate::code::Code;
 use crate::refusal::CodeErr;
-use crate::times::read_times;
 use crate::tokens::read_statements;
 use design_circuit::{Bytes, Circuit, Forces};
 use replay_forces::changes_of;
@@ -50,7 +49,6 @@ pub fn read_code(
         stim: circuit.stim,
         scope,
     };
-    read_times(circuit.stim);
     let statements = read_statements(alloc, code)?;
     Ok(changes_of(alloc, circuit, statements.as_slice())?)
 }

@@ -26,7 +26,7 @@ row_after n w some =
     ap (λ k. k % w) next ∙ mod-mul-add (n / w + 1) w (n % w) (mod-lt n some)
 
 -- Of fewer places than there are nets no two are of one net.
-between : (n k w : ℕ) → n + 1 ≤ k → k < n + w → k % w ≡ n % w → ⊥
+pub between : (n k w : ℕ) → n + 1 ≤ k → k < n + w → k % w ≡ n % w → ⊥
 between n k w from below same = ⊎_elim (λ less. late less) (λ more. early more) (cases_lt (n / w) (k / w))
   where
     first : n / w * w + n % w ≡ n

@@ -3,10 +3,10 @@ use Rattle.std.proofs.Common.{◌≡◌, ℕ, inl, inr, Result, Ok, Err, IfOk, I
 use Rattle.std.proofs.lemmas.Bool.{cases_lt}
 use Rattle.design_circuit.specs.Fits.{Fits}
 use Rattle.design_circuit.specs.Job.{Job, at}
-use Rattle.design_circuit.specs.Order.{position_of}
+use Rattle.design_circuit.specs.Order.{IsOrdering, position_of}
 use Rattle.design_circuit.specs.Replay.{kept_at}
 use Rattle.design_circuit.specs.Settled.{last_step, IsSettledAt, IsSettled}
-use Rattle.design_circuit.proofs.OrderLemmas.{position_is}
+use Rattle.design_circuit.proofs.OrderLemmas.{net_at_position, position_is}
 use Rattle.design_circuit.proofs.Rules.{position_in}
 use Rattle.recording_binding.specs.declared.binding.Binding.{Binding}
 use Rattle.recording_binding.specs.declared.binding.Bound.{Bound}
@@ -86,27 +86,38 @@ clash j recording binding (Disagrees variable bit moment recorded replayed) faul
     first.first.differs.differs (none.agrees first.place no_variable first.within bit first.first.within)
 
 -- Of two numbers that are each the least of their kind none is less than the other.
-neither_less : (m n : ℕ) → (m < n → ⊥) → (n < m → ⊥) → m ≡ n
+pub neither_less : (m n : ℕ) → (m < n → ⊥) → (n < m → ⊥) → m ≡ n
 neither_less m n low high = ⊎_elim (λ less. absurd (low less)) (λ more. ⊎_elim (λ less. absurd (high less)) (λ equal. omega arith) (cases_lt n m)) (cases_lt m n)
 
+-- An order of all nets of a job.
+pub record OrdersAll (j : Job) : Type 0 where
+  pub ordering : IsOrdering j.order
+  pub all : length j.order ≡ j.width
+
+ordered_net : (j : Job) → OrdersAll j → (net : ℕ) → net < j.width → slice_index j.order (position_of j.order net) ≡ net
+ordered_net j orders net within =
+    let all = orders.all in
+    let at = orders.ordering.each net (omega (arith, all, within)) in
+    net_at_position j.order net at.0 at.1 at.2
+
 -- Two faults of one moment are the same.
-same_fault : (j : Job) → Fits j → (recording : Recording) (binding : Binding) (d e : Differ) → IsFault j recording binding d → IsFault j recording binding e → moment_of d ≡ moment_of e → d ≡ e
-same_fault j fits recording binding (Unsettled net moment kept next) (Unsettled other when keeps then) first second same =
+pub same_fault : (j : Job) → OrdersAll j → (recording : Recording) (binding : Binding) (d e : Differ) → IsFault j recording binding d → IsFault j recording binding e → moment_of d ≡ moment_of e → d ≡ e
+same_fault j orders recording binding (Unsettled net moment kept next) (Unsettled other when keeps then) first second same =
     let a : IsFirstUnsettled j moment other keeps then = rw same second in
     let low : position_of j.order net < position_of j.order other → ⊥ = λ less. first.unsettles.unsettled (a.before net first.within less) in
     let high : position_of j.order other < position_of j.order net → ⊥ = λ less. a.unsettles.unsettled (first.before other a.within less) in
     let positions = neither_less (position_of j.order net) (position_of j.order other) low high in
-    let nets : net ≡ other = sym (net_there j fits net first.within) ∙ ap (slice_index j.order) positions ∙ net_there j fits other a.within in
+    let nets : net ≡ other = sym (ordered_net j orders net first.within) ∙ ap (slice_index j.order) positions ∙ ordered_net j orders other a.within in
     let keeps_same : kept ≡ keeps = first.unsettles.kept_is ∙ ap (λ n. kept_at j (at j (last_step j moment) n)) nets ∙ sym a.unsettles.kept_is in
     let next_same : next ≡ then = first.unsettles.next_is ∙ ap (λ n. kept_after j (last_step j moment) n (j.driver n)) nets ∙ sym a.unsettles.next_is in
     rw (nets, same, keeps_same, next_same) refl
-same_fault j fits recording binding (Unsettled net moment kept next) (Disagrees variable bit when recorded replayed) first second same =
+same_fault j orders recording binding (Unsettled net moment kept next) (Disagrees variable bit when recorded replayed) first second same =
     let settled : IsSettled j moment = rw same second.0 in
     absurd (first.unsettles.unsettled (settled net first.within))
-same_fault j fits recording binding (Disagrees variable bit when recorded replayed) (Unsettled net moment kept next) first second same =
+same_fault j orders recording binding (Disagrees variable bit when recorded replayed) (Unsettled net moment kept next) first second same =
     let settled : IsSettled j moment = rw (← same) first.0 in
     absurd (second.unsettles.unsettled (settled net second.within))
-same_fault j fits recording binding (Disagrees variable bit moment recorded replayed) (Disagrees other place when reads shows) first second same =
+same_fault j orders recording binding (Disagrees variable bit moment recorded replayed) (Disagrees other place when reads shows) first second same =
     let a = first.1 in
     let b : IsFirstDisagreement j recording binding moment other place reads shows = rw same second.1 in
     let low : a.place < b.place → ⊥ = λ less. a.first.differs.differs (b.before a.place less bit a.first.within) in
@@ -120,23 +131,23 @@ same_fault j fits recording binding (Disagrees variable bit moment recorded repl
     rw (variables, bits, same, reads_same, shows_same) refl
 
 -- There is at most one first fault.
-pub one_fault : (j : Job) → Fits j → (recording : Recording) (binding : Binding) (d e : Differ) → IsFirstFault j recording binding d → IsFirstFault j recording binding e → d ≡ e
-one_fault j fits recording binding d e first second =
+pub one_fault : (j : Job) → OrdersAll j → (recording : Recording) (binding : Binding) (d e : Differ) → IsFirstFault j recording binding d → IsFirstFault j recording binding e → d ≡ e
+one_fault j orders recording binding d e first second =
     let low : moment_of d < moment_of e → ⊥ = λ less. clash j recording binding d first.fault (second.before (moment_of d) less) in
     let high : moment_of e < moment_of d → ⊥ = λ less. clash j recording binding e second.fault (first.before (moment_of e) less) in
-    same_fault j fits recording binding d e first.fault second.fault (neither_less (moment_of d) (moment_of e) low high)
+    same_fault j orders recording binding d e first.fault second.fault (neither_less (moment_of d) (moment_of e) low high)
 
 -- Where there is no fault there is no first one.
-faultless : (j : Job) (recording : Recording) (binding : Binding) (differ : Differ) → IsFaultless j recording binding → IsFirstFault j recording binding differ → ⊥
-faultless j recording binding differ none first = clash j recording binding differ first.fault (none (moment_of differ) first.within)
+pub no_first : (j : Job) (recording : Recording) (binding : Binding) (differ : Differ) → IsFaultless j recording binding → IsFirstFault j recording binding differ → ⊥
+no_first j recording binding differ none first = clash j recording binding differ first.fault (none (moment_of differ) first.within)
 
 -- An answer that is right where it is Ok and where it is a fault is so exactly, unless memory ran out.
 pub tells_faultless : (j : Job) (recording : Recording) (binding : Binding) (result : Result (Unit {0}) DifferErr) → IfErr result (IfDiffers (IsFirstFault j recording binding)) → TellsFaultless j recording binding result
 tells_faultless j recording binding (Ok unit) first none = inl refl
-tells_faultless j recording binding (Err (Differs differ)) first none = absurd (faultless j recording binding differ none first)
+tells_faultless j recording binding (Err (Differs differ)) first none = absurd (no_first j recording binding differ none first)
 tells_faultless j recording binding (Err Memory) first none = inr refl
 
 pub tells_first : (j : Job) → Fits j → (recording : Recording) (binding : Binding) (result : Result (Unit {0}) DifferErr) → IfOk result (λ _. IsFaultless j recording binding) → IfErr result (IfDiffers (IsFirstFault j recording binding)) → TellsFirst j recording binding result
-tells_first j fits recording binding (Ok unit) none first differ is = absurd (faultless j recording binding differ none is)
-tells_first j fits recording binding (Err (Differs other)) none first differ is = inl (ap (λ (d : Differ). Err (Differs d)) (one_fault j fits recording binding other differ first is))
+tells_first j fits recording binding (Ok unit) none first differ is = absurd (no_first j recording binding differ none is)
+tells_first j fits recording binding (Err (Differs other)) none first differ is = inl (ap (λ (d : Differ). Err (Differs d)) (one_fault j (record { ordering = fits.ordering; all = fits.all }) recording binding other differ first is))
 tells_first j fits recording binding (Err Memory) none first differ is = inr refl

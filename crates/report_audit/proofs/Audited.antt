@@ -1,16 +1,16 @@
 -- The places of an audit are written, and the replay has them.
 use Rattle.std.proofs.Common.{◌≡◌, ℕ, ◌*◌, ◌<◌, ◌∙◌, length, arith, ap, sym, subst}
+use Rattle.design_circuit.proofs.PlaceNumbers.{place_back}
 use Rattle.design_circuit.proofs.Numbers.{is_place_at}
 use Rattle.design_circuit.specs.Filling.{IsPlace}
-use Rattle.design_circuit.specs.Fits.{Fits, place_at}
-use Rattle.design_circuit.specs.Job.{Job, net_of, number_of, places_of}
+use Rattle.design_circuit.specs.Fits.{place_at}
+use Rattle.design_circuit.specs.Job.{Job, number_of, places_of}
 use Rattle.design_circuit.specs.Replay.{Held, shown_at}
 use Rattle.design_circuit.specs.History.{HasPlace, HistoryView}
 use Rattle.design_circuit.specs.declared.place.Place.{Place}
 use Rattle.design_circuit.proofs.Handed.{has_place, number_within}
 use Rattle.wave_proved.specs.Contents.{Contents, IsWave, IsWritten, job}
 use Rattle.design_circuit.proofs.Replays.{replay_prefix}
-use Rattle.law_model.proofs.CarryLaw.{net_at, step_at}
 use Rattle.report_audit.specs.Listed.{IsAudit, replayed_at}
 
 pub is_written : (c : Contents) (replay : HistoryView) → IsWave c → IsAudit c replay → (place : Place)
@@ -39,14 +39,6 @@ place_there c wave j same number less place is =
     let at : place ≡ place_at (job c) number = is ∙ ap (λ (i : Job). place_at i number) same in
     record { at = at; within = subst (IsPlace (job c)) (sym at) (is_place_at (job c) number fits.ordering fits.all (omega (arith, up, less))) }
 
--- A place of a job is that of its number.
-pub place_again : (j : Job) → Fits j → (place : Place) → IsPlace j place → place_at j (number_of j place) ≡ place
-place_again j fits place is =
-    let step = step_at j fits place.step place.net is.net in
-    let net = net_at j fits place.step place.net is.net in
-    ap (λ (s : ℕ). record { step = s; net = net_of j (number_of j place) }) step
-    ∙ ap (λ (k : ℕ). record { step = place.step; net = k }) net
-
 -- What is read in the history is what the replay shows.
 pub replay_shows : (c : Contents) (replay : HistoryView) → IsWave c → IsAudit c replay → (place : Place)
     → IsPlace (job c) place → replayed_at replay place ≡ shown_at (job c) (number_of (job c) place)
@@ -54,5 +46,5 @@ replay_shows c replay wave audit place is =
     let j = job c in
     let n = number_of j place in
     let less = number_within j wave.fits.fits_job place is in
-    ap (λ (p : Place). replayed_at replay p) (sym (place_again j wave.fits.fits_job place is))
+    ap (λ (p : Place). replayed_at replay p) (sym (place_back j wave.fits.fits_job place is))
     ∙ ap (λ (h : Held). h.shown) (audit.replayed.held n less) ∙ replay_prefix j (places_of j) n less

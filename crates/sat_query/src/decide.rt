@@ -1,9 +1,11 @@
-//! Deciding a formula: a guess that is tested, else the search of `sat_search`.
+//! Deciding a formula: by a log that served before, else by a guess that is tested, else by the search of `sat_search`.
 
 ghost use Rattle.std.specs.Prelude.{◌≤◌, ◌<◌, IfOk, IfSome};
+ghost use Rattle.sat_proof.specs.Log.{Fit};
 ghost use Rattle.sat_query.specs.Decided.{IsDecided};
 ghost use Rattle.sat_search.specs.Outcome.{IsOutcome};
 
+use crate::cores::Core;
 use crate::logs::{checker_for, fits};
 use crate::models::is_model;
 use crate::search::Guess;
@@ -17,10 +19,12 @@ use std::alloc::Global;
 const MOST_CONFLICTS: u32 = 5_000;
 
 /// A search that makes guesses. It keeps the bits that variables had last: so the next formula is best one over the
-/// same variables. Takes some 80 bytes for each variable, 32 for each clause and 4 for each literal.
+/// same variables. And it keeps the last log that refuted a formula, with the clauses that this log needs. Takes some 80
+/// bytes for each variable, 64 for each clause and 8 for each literal.
 #[derive(Drop)]
 pub struct Decider {
     solver: Solver,
+    core: Option<Core>,
 }
 
 impl Decider {
@@ -28,6 +32,7 @@ impl Decider {
     pub fn new(alloc: Global) -> Decider {
         Decider {
             solver: Solver::new(alloc),
+            core: None,
         }
     }
 
@@ -43,7 +48,18 @@ impl Decider {
         }
     }
 
-    /// A guess that stood its test, by a search that ends after a number of conflicts.
+    /// The log that is kept, if it refutes this formula too.
+    fn serve(&self, alloc: Global, formula: &Cnf) -> Result<Option<Outcome>, Memory>
+        ensures { IfOk result (λ found. IfSome found (IsDecided formula.now)) }
+    {
+        match &self.core {
+            Some(core) => core.refute(alloc, formula),
+            None => Ok(None),
+        }
+    }
+
+    /// What the log that is kept gives, or else a guess that stood its test, by a search that ends after a number of
+    /// conflicts.
     fn find(
         &mut self,
         alloc: Global,
@@ -52,10 +68,36 @@ impl Decider {
     ) -> Result<Option<Outcome>, Memory>
         ensures { IfOk result (λ found. IfSome found (IsDecided formula.now)) }
     {
+        if let Some(outcome) = self.serve(alloc, formula)? {
+            return Ok(Some(outcome));
+        }
         match self.solver.guess(alloc, formula, conflicts)? {
             Guess::Model(model) => Ok(tested(formula, model)),
-            Guess::Log(log) => checked(alloc, formula, log),
+            Guess::Log(log) => self.checked(alloc, formula, log),
             Guess::Nothing => Ok(None),
+        }
+    }
+
+    /// A log of a formula, if it refutes the clauses that it should need, which are then kept with it.
+    fn checked(
+        &mut self,
+        alloc: Global,
+        formula: &Cnf,
+        log: Log,
+    ) -> Result<Option<Outcome>, Memory>
+        ensures { IfOk result (λ found. IfSome found (IsDecided formula.now)) }
+    {
+        if !fits(&log, formula.vars) {
+            return Ok(None);
+        }
+        let needed = self.solver.needed_clauses(alloc, formula)?;
+        let mut checker = checker_for(alloc, &needed, &log)?;
+        match checker.check(&needed, log) {
+            Ok(proof) => {
+                self.core = Some(Core::new(needed, proof.into_log()));
+                self.serve(alloc, formula)
+            }
+            Err(bad) => checked_whole(alloc, formula, bad.log),
         }
     }
 }
@@ -71,13 +113,11 @@ fn tested(formula: &Cnf, model: Model) -> Option<Outcome>
     }
 }
 
-/// A log that refutes a formula, if it does.
-fn checked(alloc: Global, formula: &Cnf, log: Log) -> Result<Option<Outcome>, Memory>
+/// The same of all clauses of the formula, where the log needs others too.
+fn checked_whole(alloc: Global, formula: &Cnf, log: Log) -> Result<Option<Outcome>, Memory>
+    requires { Fit formula.now.vars log }
     ensures { IfOk result (λ found. IfSome found (IsDecided formula.now)) }
 {
-    if !fits(&log, formula.vars) {
-        return Ok(None);
-    }
     let mut checker = checker_for(alloc, formula, &log)?;
     match checker.check(formula, log) {
         Ok(proof) => Ok(Some(Outcome::Refuted(proof))),

@@ -1,12 +1,14 @@
-//! The log of a refutation: of the learned clauses those that it needs.
+//! The log of a refutation: of the learned clauses those that it needs. And of a formula the clauses that it needs.
 
-ghost use Rattle.std.specs.Prelude.{◌≢◌, IfOk, pos};
+ghost use Rattle.std.specs.Prelude.{◌≡◌, ◌≢◌, IfOk, pos};
 ghost use Rattle.sat_proof.specs.Assignment.{HasNoZero};
+ghost use Rattle.sat_query.specs.Core.{AreAmong};
 
+use crate::copies::copy_of;
 use crate::solver::Solver;
-use base_lists::Memory;
-use sat_proof::{Clause, Log};
-use sat_watches::{Literal, set_item};
+use base_lists::{Items, Memory};
+use sat_proof::{Clause, Cnf, Log};
+use sat_watches::{Literal, narrow, set_item};
 use std::alloc::Global;
 
 impl Solver {
@@ -40,9 +42,49 @@ impl Solver {
         'clauses: for learned in (0..marks.len()).rev() {
             if marks[learned] {
                 self.origins.mark(learned, &mut marks);
+                self.meet_denied(learned)?;
             }
         }
         self.marked(alloc, &marks)
+    }
+
+    /// The literals of a learned clause that unit clauses make false are met: the log leaves them out.
+    fn meet_denied(&mut self, learned: usize) -> Result<(), Memory> {
+        let clause = self.given.saturating_add(narrow(learned));
+        'literals: for k in 0..self.clauses.count(clause) {
+            let literal = self.clauses.literal(clause, k);
+            if self.is_denied(literal) && !self.seen.is_met(literal.variable()) {
+                self.seen.meet(literal.variable())?;
+            }
+        }
+        Ok(())
+    }
+
+    /// Of a formula's clauses those that the log of its refutation should need, if it was made just before: all but the
+    /// unit clauses that it didn't meet. Takes their memory.
+    pub(crate) fn needed_clauses(&self, alloc: Global, formula: &Cnf) -> Result<Cnf, Memory>
+        ensures vars { IfOk result (λ needed. needed.vars ≡ formula.now.vars) }
+        ensures among { IfOk result (λ needed. AreAmong needed.clauses formula.now.clauses) }
+    {
+        let clauses = formula.clauses.as_slice();
+        let mut needed = Vec::with_capacity(alloc, clauses.len())?;
+        'clauses: for place in 0..clauses.len() {
+            if place + 1 == clauses.len() || self.may_need(clauses[place].as_slice()) {
+                needed.push(copy_of(alloc, &clauses[place])?)?;
+            }
+        }
+        Ok(Cnf {
+            vars: formula.vars,
+            clauses: Items::from_vec(needed),
+        })
+    }
+
+    /// Whether the last log may need a clause: any but a unit clause whose variable it didn't meet.
+    fn may_need(&self, literals: &[i32]) -> bool {
+        match literals {
+            [literal] => self.seen.is_met(Literal::of(*literal).variable()),
+            _ => true,
+        }
     }
 
     /// A clause is needed: it is marked if it is learned, and its literals are met.

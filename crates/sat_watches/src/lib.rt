@@ -1,8 +1,8 @@
 //! What searches that learn clauses are made of: literals, the watches of clauses, and what the analysis of a conflict
-//! met. Promised is no more than that each call ends and stays in its lists: what is past the end of one reads as
-//! nothing, and isn't written.
+//! met. Each contract says exactly what its call gives and leaves. A place past the end of a list is no fault: a read
+//! there gives what stands for nothing, and a write there leaves the list as it is.
 //!
-//! Start at `Literal`, `Watches` and `Seen`.
+//! Start at `item_at` and `set_item`, then at `Literal`, `Watches` and `Seen`.
 #![tactic(auto)]
 
 mod literal;

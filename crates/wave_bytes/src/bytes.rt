@@ -24,7 +24,7 @@ use design_cell::Value;
 use design_circuit::{Circuit, Mark, Source, Written, count_places};
 use design_wiring::Wiring;
 use law_model::ClassByNumber;
-use law_quiet::{Earlier, class_at, keeps_here, place_before};
+use law_quiet::{Asked, Earlier, class_at, keeps_here, place_before};
 
 /// What is known of the places that are written.
 #[derive(Clone, Copy, Debug)]
@@ -43,7 +43,11 @@ impl<'w> Source for Bytes<'w> {
 }
 
 impl<'w> Earlier for Bytes<'w> {
+    ghost use Rattle.std.proofs.Common.{rules, arith};
+
     ghost facts = { λ s place. facts_in s.rows.now.bytes place };
+
+    ghost count = { λ s. length s.rows.now.bytes };
 
     fn is_carried_on(&self, place: usize) -> bool {
         is_carried_on(self.rows.byte(place))
@@ -60,6 +64,8 @@ impl<'w> Earlier for Bytes<'w> {
     fn keeps(&self, place: usize) -> bool {
         keeps(self.rows.byte(place))
     }
+
+    ghost has_all = { Prim.search (rules, arith) };
 }
 
 #[tactic(auto, unfolding(design_circuit::specs::Waveform::certain))]
@@ -100,9 +106,13 @@ pub fn class_behind(
 {
     let place = rows.count();
     if place < count_places(circuit) {
-        let earlier = Bytes { rows };
-        let class = class_at(circuit, wiring, &earlier, place, front.position, all_keep);
-        Some(class)
+        let asked = Asked {
+            circuit,
+            earlier: &Bytes { rows },
+            place,
+            position: front.position,
+        };
+        Some(class_at(&asked, wiring, all_keep))
     } else {
         None
     }

@@ -23,7 +23,7 @@ use design_cell::Value;
 use design_circuit::{Circuit, Place, Written, width_of};
 use design_wiring::Wiring;
 use law_model::ClassByNumber;
-use law_quiet::{ArgumentsByNumber, argument_places, class_at, kept_class, rule_value};
+use law_quiet::{ArgumentsByNumber, Asked, argument_places, class_at, kept_class, rule_value};
 use std::alloc::Global;
 use std::marker::Model;
 
@@ -197,8 +197,13 @@ impl<'a> Waveform<'a> {
         if number < self.rows.count() {
             kept_class(&self.circuit, &self.wiring, &bytes, number)
         } else {
-            let position = self.front.position;
-            class_at(&self.circuit, &self.wiring, &bytes, number, position, false)
+            let asked = Asked {
+                circuit: &self.circuit,
+                earlier: &bytes,
+                place: number,
+                position: self.front.position,
+            };
+            class_at(&asked, &self.wiring, false)
         }
     }
 

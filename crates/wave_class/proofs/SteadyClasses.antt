@@ -142,7 +142,7 @@ bit_known One bit is = refl
 bit_known X bit is = cc
 bit_known Z bit is = cc
 
-copy_known : (j : Job) (c : ℕ → Value) (place from : ℕ) (inverted : Bool)
+pub copy_known : (j : Job) (c : ℕ → Value) (place from : ℕ) (inverted : Bool)
     → ClassSays j c (class_of j c) place (Carried from inverted)
     → ((passes_on j c (class_of j c) place ≡ true) → is_never_unknown j c place ≡ true)
     → is_never_unknown j c place ≡ true

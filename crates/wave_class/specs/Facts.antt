@@ -1,5 +1,6 @@
 -- What is kept of each place that stands before a place, and how certain values agree with classes.
-use Rattle.std.specs.Prelude.{◌≡◌, ℕ, ◌<◌, ◌≤◌, ◌==◌, ◌&&◌, ◌||◌, Bool, true, false, not}
+use Rattle.std.specs.Prelude.{◌≡◌, ℕ, ◌<◌, ◌≤◌, ◌==◌, ◌&&◌, ◌||◌, Bool, true, false, not, refl}
+use Rattle.std.specs.Coded.{Coded, Coded-set, Unit-prop, code_by, coded_bool, coded×}
 use Rattle.design_cell.specs.declared.value.Value.{Value}
 use Rattle.design_cell.specs.declared.value.Value.TheVariants.{Zero, One, X, Z}
 use Rattle.design_cell.specs.Value.{bit_value}
@@ -84,3 +85,50 @@ plain_class Zero = Local false
 plain_class One = Local true
 plain_class X = Free
 plain_class Z = Free
+
+-- ---- each is true in one way, as a fact on a type has to be
+
+abbrev bits_of : Value → Bool × Bool
+bits_of Zero = (false, false)
+bits_of One = (false, true)
+bits_of X = (true, false)
+bits_of Z = (true, true)
+
+abbrev value_of : Bool × Bool → Value
+value_of (false, false) = Zero
+value_of (false, true) = One
+value_of (true, false) = X
+value_of (true, true) = Z
+
+value_back : (v : Value) → value_of (bits_of v) ≡ v
+value_back Zero = refl
+value_back One = refl
+value_back X = refl
+value_back Z = refl
+
+abbrev value_code : Coded Value
+value_code = code_by (Bool × Bool) (coded× coded_bool coded_bool) bits_of value_of value_back
+
+AreTold-prop : (told facts : Facts) → IsProp (AreTold told facts)
+AreTold-prop told facts x y = λ i. record {
+  carries = λ on. Coded-set coded_bool _ _ (x.carries on) (y.carries on) i;
+  plain = λ on. Coded-set coded_bool _ _ (x.plain on) (y.plain on) i;
+  line = λ on. Coded-set coded_bool _ _ (x.line on) (y.line on) i;
+  keeps = Coded-set coded_bool _ _ x.keeps y.keeps i;
+}
+
+pub AreFacts-prop : (j : Job) (certain : ℕ → Value) (facts : ℕ → Facts) (place : ℕ)
+    → IsProp (AreFacts j certain facts place)
+AreFacts-prop j certain facts place x y = λ i k less.
+    AreTold-prop (facts k) (facts_of j certain k) (x k less) (y k less) i
+
+AgreesWith-prop : (certain : ℕ → Value) (class : ClassByNumber) (value : Value)
+    → IsProp (AgreesWith certain class value)
+AgreesWith-prop certain (Local bit) value = Coded-set value_code _ _
+AgreesWith-prop certain Free value = Coded-set value_code _ _
+AgreesWith-prop certain (Carried from inverted) value = Coded-set value_code _ _
+AgreesWith-prop certain Line value = Unit-prop
+
+pub AgreeBefore-prop : (j : Job) (certain : ℕ → Value) (place : ℕ) → IsProp (AgreeBefore j certain place)
+AgreeBefore-prop j certain place x y = λ i k less.
+    AgreesWith-prop certain (class_of j certain k) (certain k) (x k less) (y k less) i

@@ -1,6 +1,6 @@
 //! The class of a place.
 
-ghost use Rattle.std.specs.Prelude.{◌≡◌, ℕ, ◌+◌, ◌-◌, ◌%◌, ◌<◌, ◌≤◌};
+ghost use Rattle.std.specs.Prelude.{◌≡◌, ◌+◌, ◌-◌, ◌%◌, ◌<◌};
 ghost use Rattle.std.specs.Bool.{OnTrue};
 ghost use Rattle.design_circuit.specs.Circuit.{job_in};
 ghost use Rattle.design_circuit.specs.Job.{places_of};
@@ -8,6 +8,7 @@ ghost use Rattle.law_model.specs.Class.{class_of};
 ghost use Rattle.wave_class.specs.Facts.{AgreeBefore, AllKeep, AreFacts};
 ghost use Rattle.wave_class.specs.Wires.{AreWiresOf};
 
+use crate::asked::Asked;
 use crate::earlier::Earlier;
 use crate::keeps::place_before;
 use crate::quick::{copied_class, input_class, plain_class};
@@ -19,38 +20,21 @@ use law_model::ClassByNumber;
 
 /// The class of a place, from what is known of the places before it: the first that applies. It is told whether all
 /// places before it in its step keep, so that its pins needn't be looked at.
-pub fn class_at<E: Earlier>(
-    circuit: &Circuit<'_>,
-    wiring: &Wiring,
-    earlier: &E,
-    place: usize,
-    position: usize,
-    all_keep: bool,
-) -> ClassByNumber
-    requires wired { AreWiresOf circuit.now wiring.now }
-    requires within { place < places_of (job_in circuit.now) }
-    requires position { position ≡ place % (job_in circuit.now).width }
-    requires certain { (k : ℕ) → k < place → E.has earlier.now k }
-    requires facts { AreFacts (job_in circuit.now) (E.reads earlier.now) (E.facts earlier.now) place }
-    requires agrees { AgreeBefore (job_in circuit.now) (E.reads earlier.now) place }
-    requires keep { OnTrue all_keep (AllKeep (E.facts earlier.now) (place - position) place) }
-    ensures { result ≡ class_of (job_in circuit.now) (E.reads earlier.now) place }
+pub fn class_at<E: Earlier>(asked: &Asked<'_, E>, wiring: &Wiring, all_keep: bool) -> ClassByNumber
+    requires wired { AreWiresOf asked.now.circuit.now wiring.now }
+    requires keep { let asked = asked.now in
+        OnTrue all_keep (AllKeep (E.facts asked.earlier.now) (asked.place - asked.position) asked.place) }
+    ensures { result ≡ class_of (job_in asked.now.circuit.now) (E.reads asked.now.earlier.now) asked.now.place }
 {
-    let pins = wiring.pins(position);
-    match wiring.kind(position) {
-        Kind::Input => input_class(circuit, earlier, place),
-        Kind::Undriven => tried_class(circuit, earlier, place),
+    let pins = wiring.pins(asked.position);
+    match wiring.kind(asked.position) {
+        Kind::Input => input_class(asked),
+        Kind::Undriven => tried_class(asked),
         Kind::Constant(bit) => ClassByNumber::Local(bit),
-        Kind::Copy => copied_class(circuit, earlier, place, position, pins),
-        Kind::Gate(gate) => {
-            let table = Table::Gate(gate);
-            cell_class(circuit, earlier, place, position, table, pins, all_keep)
-        }
-        Kind::Udp(number) => {
-            let table = Table::Udp(number);
-            cell_class(circuit, earlier, place, position, table, pins, all_keep)
-        }
-        Kind::Register => register_class(circuit, earlier, place, position, pins),
+        Kind::Copy => copied_class(asked, pins),
+        Kind::Gate(gate) => cell_class(asked, Table::Gate(gate), pins, all_keep),
+        Kind::Udp(number) => cell_class(asked, Table::Udp(number), pins, all_keep),
+        Kind::Register => register_class(asked, pins),
     }
 }
 
@@ -63,7 +47,7 @@ pub fn kept_class<E: Earlier>(
 ) -> ClassByNumber
     requires wired { AreWiresOf circuit.now wiring.now }
     requires within { place < places_of (job_in circuit.now) }
-    requires certain { (k : ℕ) → k ≤ place → E.has earlier.now k }
+    requires known { place < E.count earlier.now }
     requires facts { AreFacts (job_in circuit.now) (E.reads earlier.now) (E.facts earlier.now) (place + 1) }
     requires agrees { AgreeBefore (job_in circuit.now) (E.reads earlier.now) (place + 1) }
     ensures { result ≡ class_of (job_in circuit.now) (E.reads earlier.now) place }
@@ -75,7 +59,12 @@ pub fn kept_class<E: Earlier>(
     } else if earlier.is_line(place) {
         ClassByNumber::Line
     } else {
-        let position = place % width_of(circuit);
-        class_at(circuit, wiring, earlier, place, position, false)
+        let asked = Asked {
+            circuit,
+            earlier,
+            place,
+            position: place % width_of(circuit),
+        };
+        class_at(&asked, wiring, false)
     }
 }

@@ -1,17 +1,18 @@
 //! What the rule of a place gives for the first choice of bits, all 0, and for the last, all 1: what its class can be.
 
-ghost use Rattle.std.specs.Prelude.{◌≡◌, ℕ, ◌<◌, ◌≤◌, length};
+ghost use Rattle.std.specs.Prelude.{◌≡◌, ◌<◌};
 ghost use Rattle.design_cell.specs.declared.value.Value.{Value as AnyValue};
 ghost use Rattle.design_circuit.specs.Circuit.{job_in};
-ghost use Rattle.design_circuit.specs.Job.{places_of};
 ghost use Rattle.wave_class.specs.Ends as spec;
 ghost use Rattle.wave_class.specs.Ends.{AreEnds};
 ghost use Rattle.wave_class.specs.Test.{differ, value_by_number};
 
+use crate::asked::Uncertain;
 use crate::assigned::{Assigned, Numbered};
+use crate::earlier::Earlier;
 use crate::test::Test;
 use design_cell::Value;
-use design_circuit::{Circuit, Source, rule_value};
+use design_circuit::rule_value;
 
 /// The two values.
 #[derive(Clone, Copy, Debug)]
@@ -20,42 +21,33 @@ pub struct Ends {
     pub last: Value,
 }
 
-/// What the rule of a place gives for the first and for the last choice of bits for some places.
-pub fn ends_of<C: Source>(
-    circuit: &Circuit<'_>,
-    certain: &C,
-    place: usize,
-    places: &[usize],
-) -> Ends
-    requires within { place < places_of (job_in circuit.now) }
-    requires certain { (k : ℕ) → k < place → C.has certain.now k }
-    requires few { length places.now ≤ 13 }
-    ensures { AreEnds (job_in circuit.now) (C.reads certain.now) place places.now result }
+/// What the rule of a place gives for the first and for the last assignment.
+pub fn ends_of<E: Earlier>(uncertain: &Uncertain<'_, E>) -> Ends
+    ensures { let asked = uncertain.now.asked.now in
+        AreEnds (job_in asked.circuit.now) (E.reads asked.earlier.now) asked.place uncertain.now.places.now result }
 {
-    let end: u16 = 1 << places.len();
+    let end: u16 = 1 << uncertain.places.len();
     Ends {
-        first: value_at(circuit, certain, place, places, 0),
-        last: value_at(circuit, certain, place, places, end - 1),
+        first: value_at(uncertain, 0),
+        last: value_at(uncertain, end - 1),
     }
 }
 
 /// What the rule gives for one choice of bits.
-fn value_at<C: Source>(
-    circuit: &Circuit<'_>,
-    certain: &C,
-    place: usize,
-    places: &[usize],
-    number: u16,
-) -> Value
-    requires within { place < places_of (job_in circuit.now) }
-    requires certain { (k : ℕ) → k < place → C.has certain.now k }
-    ensures { result ≡ value_by_number (job_in circuit.now) (C.reads certain.now) place places.now number }
+fn value_at<E: Earlier>(uncertain: &Uncertain<'_, E>, number: u16) -> Value
+    ensures { let asked = uncertain.now.asked.now in
+        result ≡ value_by_number (job_in asked.circuit.now) (E.reads asked.earlier.now) asked.place
+        uncertain.now.places.now number }
 {
+    let asked = uncertain.asked;
     let bits = Assigned {
-        certain,
-        chosen: Numbered { places, number },
+        certain: asked.earlier,
+        chosen: Numbered {
+            places: uncertain.places,
+            number,
+        },
     };
-    rule_value(circuit, certain, &bits, place)
+    rule_value(asked.circuit, asked.earlier, &bits, asked.place)
 }
 
 impl Ends {

@@ -1,39 +1,30 @@
 //! What passes for every assignment of a place.
 
-ghost use Rattle.std.specs.Prelude.{◌≡◌, ℕ, ◌<◌, ◌≤◌, length};
+ghost use Rattle.std.specs.Prelude.{◌≡◌, ◌<◌};
 ghost use Rattle.design_cell.specs.declared.value.Value.{Value as AnyValue};
 ghost use Rattle.design_circuit.specs.Circuit.{job_in};
-ghost use Rattle.design_circuit.specs.Job.{places_of};
 ghost use Rattle.law_model.specs.Assignment.{assigned};
 ghost use Rattle.law_model.specs.Class.{is_bit, flipped};
 ghost use Rattle.law_model.specs.Mask.{masked};
-ghost use Rattle.wave_class.specs.Arguments.{uncertain_places};
 ghost use Rattle.wave_class.specs.Test.{passes, passes_number, ReadsOnly};
 
+use crate::asked::Uncertain;
 use crate::assigned::{Assigned, Numbered};
+use crate::earlier::Earlier;
 use crate::test::Test;
 use design_cell::Value;
-use design_circuit::{BitSource, Circuit, Source, rule_value};
+use design_circuit::{BitSource, rule_value};
 
-/// Whether a test passes for every assignment of a place, given its uncertain argument places. Tries them all, and
-/// stops at the first that fails.
-pub fn passes_every<C: Source>(
-    circuit: &Circuit<'_>,
-    certain: &C,
-    place: usize,
-    uncertain: &[usize],
-    test: Test,
-) -> bool
-    requires within { place < places_of (job_in circuit.now) }
-    requires certain { (k : ℕ) → k < place → C.has certain.now k }
-    requires few { length uncertain.now ≤ 13 }
-    requires uncertain { uncertain.now ≡ uncertain_places (job_in circuit.now) (C.reads certain.now) place }
-    requires reads { ReadsOnly (job_in circuit.now) (C.reads certain.now) place test }
-    ensures { result ≡ passes (job_in circuit.now) (C.reads certain.now) place test }
+/// Whether a test passes for every assignment of a place. Tries them all, and stops at the first that fails.
+pub fn passes_every<E: Earlier>(uncertain: &Uncertain<'_, E>, test: Test) -> bool
+    requires reads { let asked = uncertain.now.asked.now in
+        ReadsOnly (job_in asked.circuit.now) (E.reads asked.earlier.now) asked.place test }
+    ensures { let asked = uncertain.now.asked.now in
+        result ≡ passes (job_in asked.circuit.now) (E.reads asked.earlier.now) asked.place test }
 {
-    let end: u16 = 1 << uncertain.len();
+    let end: u16 = 1 << uncertain.places.len();
     'numbers: for number in 0..end {
-        if !passes_at(circuit, certain, place, uncertain, number, test) {
+        if !passes_at(uncertain, number, test) {
             return false;
         }
     }
@@ -41,24 +32,22 @@ pub fn passes_every<C: Source>(
 }
 
 /// Whether a test passes for one choice of bits.
-fn passes_at<C: Source>(
-    circuit: &Circuit<'_>,
-    certain: &C,
-    place: usize,
-    places: &[usize],
-    number: u16,
-    test: Test,
-) -> bool
-    requires within { place < places_of (job_in circuit.now) }
-    requires certain { (k : ℕ) → k < place → C.has certain.now k }
-    requires reads { ReadsOnly (job_in circuit.now) (C.reads certain.now) place test }
-    ensures { result ≡ passes_number (job_in circuit.now) (C.reads certain.now) place test places.now number }
+fn passes_at<E: Earlier>(uncertain: &Uncertain<'_, E>, number: u16, test: Test) -> bool
+    requires reads { let asked = uncertain.now.asked.now in
+        ReadsOnly (job_in asked.circuit.now) (E.reads asked.earlier.now) asked.place test }
+    ensures { let asked = uncertain.now.asked.now in
+        result ≡ passes_number (job_in asked.circuit.now) (E.reads asked.earlier.now) asked.place test
+        uncertain.now.places.now number }
 {
+    let asked = uncertain.asked;
     let bits = Assigned {
-        certain,
-        chosen: Numbered { places, number },
+        certain: asked.earlier,
+        chosen: Numbered {
+            places: uncertain.places,
+            number,
+        },
     };
-    let value = rule_value(circuit, certain, &bits, place);
+    let value = rule_value(asked.circuit, asked.earlier, &bits, asked.place);
     match test {
         Test::Bit(bit) => is_bit(value, bit),
         Test::Unknown => !value.is_known(),

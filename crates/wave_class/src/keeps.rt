@@ -1,6 +1,6 @@
 //! Which nets keep at a step, and which places pass their net's bit on.
 
-ghost use Rattle.std.specs.Prelude.{◌≡◌, ℕ, ◌+◌, ◌-◌, ◌*◌, ◌^◌, ◌<◌, ◌≤◌, ◌%◌, ◌==◌, ◌&&◌, length, not, nat_lt};
+ghost use Rattle.std.specs.Prelude.{◌≡◌, ℕ, ◌+◌, ◌-◌, ◌*◌, ◌^◌, ◌<◌, ◌≤◌, ◌%◌, ◌==◌, ◌&&◌, not, nat_lt};
 ghost use Rattle.std.specs.List.{AllByRecursion, list_all, list_any};
 ghost use Rattle.design_cell.specs.declared.value.Value.{Value as AnyValue};
 ghost use Rattle.design_circuit.specs.Circuit.{job_in, IsSpot, Reach};
@@ -10,11 +10,11 @@ ghost use Rattle.design_circuit.specs.Order.{arguments_of_driver, net_pins};
 ghost use Rattle.design_circuit.specs.Register.{had_uncertain_clock};
 ghost use Rattle.law_model.specs.Class.{are_equal, before, class_of, is_never_unknown, keeps, passes_on, passes_on_of};
 ghost use Rattle.design_circuit.specs.declared.design.Driver.TheVariants.{Cell};
-ghost use Rattle.wave_class.specs.Arguments.{uncertain_places};
-ghost use Rattle.wave_class.specs.Facts.{AreFacts, keeps_since};
+ghost use Rattle.wave_class.specs.Facts.{keeps_since};
 ghost use Rattle.wave_class.specs.Keeps.{cell_chooses, cell_passes, driver_passes, net_keeps, nets_keep, place_passes};
 ghost use Rattle.wave_class.specs.Keeps.{register_passes};
 
+use crate::asked::{Asked, Uncertain};
 use crate::earlier::Earlier;
 use crate::every::passes_every;
 use crate::ruled::number_at;
@@ -25,67 +25,37 @@ use design_circuit::{
     recorded_at, spot_of, width_of,
 };
 
-/// Whether a place passes its net's bit on, given its argument places that aren't certain.
-pub fn passes_on<E: Earlier>(
-    circuit: &Circuit<'_>,
-    earlier: &E,
-    place: usize,
-    uncertain: &[usize],
-) -> bool
-    requires within { place < places_of (job_in circuit.now) }
-    requires certain { (k : ℕ) → k < place → E.has earlier.now k }
-    requires facts { AreFacts (job_in circuit.now) (E.reads earlier.now) (E.facts earlier.now) place }
-    requires few { length uncertain.now ≤ 13 }
-    requires uncertain { uncertain.now ≡ uncertain_places (job_in circuit.now) (E.reads earlier.now) place }
-    ensures { result ≡ place_passes (job_in circuit.now) (E.reads earlier.now) place }
+/// Whether a place passes its net's bit on.
+pub fn passes_on<E: Earlier>(uncertain: &Uncertain<'_, E>) -> bool
+    ensures { let asked = uncertain.now.asked.now in
+        result ≡ place_passes (job_in asked.circuit.now) (E.reads asked.earlier.now) asked.place }
 {
-    let spot = spot_of(circuit, place);
-    driver_passes(
-        circuit,
-        earlier,
-        place,
-        uncertain,
-        spot,
-        driver_at(circuit, spot.net),
-    )
+    let asked = uncertain.asked;
+    let spot = spot_of(asked.circuit, asked.place);
+    driver_passes(uncertain, spot, driver_at(asked.circuit, spot.net))
 }
 
-fn driver_passes<E: Earlier>(
-    circuit: &Circuit<'_>,
-    earlier: &E,
-    place: usize,
-    uncertain: &[usize],
-    spot: Spot,
-    driver: &Driver,
-) -> bool
-    requires spot { IsSpot (job_in circuit.now) place spot }
-    requires driver { FitsDriver (job_in circuit.now).udps (job_in circuit.now).width driver.now }
-    requires is { (job_in circuit.now).driver spot.net ≡ driver.now }
-    requires before { Standing (job_in circuit.now) spot.position (arguments_of_driver driver.now) }
-    requires certain { (k : ℕ) → k < place → E.has earlier.now k }
-    requires facts { AreFacts (job_in circuit.now) (E.reads earlier.now) (E.facts earlier.now) place }
-    requires few { length uncertain.now ≤ 13 }
-    requires uncertain { uncertain.now ≡ uncertain_places (job_in circuit.now) (E.reads earlier.now) place }
-    ensures { result ≡ driver_passes (job_in circuit.now) (E.reads earlier.now) place spot.step spot.net driver.now }
+fn driver_passes<E: Earlier>(uncertain: &Uncertain<'_, E>, spot: Spot, driver: &Driver) -> bool
+    requires spot { let asked = uncertain.now.asked.now in IsSpot (job_in asked.circuit.now) asked.place spot }
+    requires driver { let j = job_in uncertain.now.asked.now.circuit.now in FitsDriver j.udps j.width driver.now }
+    requires is { (job_in uncertain.now.asked.now.circuit.now).driver spot.net ≡ driver.now }
+    requires before { let j = job_in uncertain.now.asked.now.circuit.now in
+        Standing j spot.position (arguments_of_driver driver.now) }
+    ensures { let asked = uncertain.now.asked.now in
+        result ≡ driver_passes (job_in asked.circuit.now) (E.reads asked.earlier.now) asked.place spot.step spot.net
+        driver.now }
 {
+    let asked = uncertain.asked;
     match driver {
         Driver::Input => {
-            let unknown = !recorded_at(circuit, spot.step, spot.net).is_known();
-            is_later_round(circuit, spot) && unknown
+            let unknown = !recorded_at(asked.circuit, spot.step, spot.net).is_known();
+            is_later_round(asked.circuit, spot) && unknown
         }
-        Driver::Undriven => is_later_round(circuit, spot),
+        Driver::Undriven => is_later_round(asked.circuit, spot),
         Driver::Constant(_) => false,
-        Driver::Copy(net) => net_keeps(circuit, earlier, place, spot.step, *net),
-        Driver::Cell(table, pins) => cell_passes(
-            circuit,
-            earlier,
-            place,
-            uncertain,
-            spot,
-            *table,
-            pins.as_slice(),
-        ),
-        Driver::Register(latching) => register_passes(circuit, earlier, place, spot, latching),
+        Driver::Copy(net) => net_keeps(asked, spot.step, *net),
+        Driver::Cell(table, pins) => cell_passes(uncertain, spot, *table, pins.as_slice()),
+        Driver::Register(latching) => register_passes(asked, spot, latching),
     }
 }
 
@@ -96,33 +66,27 @@ fn is_later_round(circuit: &Circuit<'_>, spot: Spot) -> bool
 }
 
 fn cell_passes<E: Earlier>(
-    circuit: &Circuit<'_>,
-    earlier: &E,
-    place: usize,
-    uncertain: &[usize],
+    uncertain: &Uncertain<'_, E>,
     spot: Spot,
     table: Table,
     pins: &[Pin],
 ) -> bool
-    requires spot { IsSpot (job_in circuit.now) place spot }
-    requires is { (job_in circuit.now).driver spot.net ≡ Cell table pins.now }
-    requires before { Standing (job_in circuit.now) spot.position (net_pins pins.now) }
-    requires certain { (k : ℕ) → k < place → E.has earlier.now k }
-    requires facts { AreFacts (job_in circuit.now) (E.reads earlier.now) (E.facts earlier.now) place }
-    requires few { length uncertain.now ≤ 13 }
-    requires uncertain { uncertain.now ≡ uncertain_places (job_in circuit.now) (E.reads earlier.now) place }
-    ensures { result ≡ cell_passes (job_in circuit.now) (E.reads earlier.now) place spot.step pins.now }
+    requires spot { let asked = uncertain.now.asked.now in IsSpot (job_in asked.circuit.now) asked.place spot }
+    requires is { (job_in uncertain.now.asked.now.circuit.now).driver spot.net ≡ Cell table pins.now }
+    requires before { Standing (job_in uncertain.now.asked.now.circuit.now) spot.position (net_pins pins.now) }
+    ensures { let asked = uncertain.now.asked.now in
+        result ≡ cell_passes (job_in asked.circuit.now) (E.reads asked.earlier.now) asked.place spot.step pins.now }
 {
     if spot.step == 0 {
         return false;
     }
-    if !pins_keep(circuit, earlier, place, spot.step, pins) {
+    if !pins_keep(uncertain.asked, spot.step, pins) {
         return false;
     }
     if !cell_chooses(table, pins) {
         return true;
     }
-    passes_every(circuit, earlier, place, uncertain, Test::Known)
+    passes_every(uncertain, Test::Known)
 }
 
 /// Whether the place of a cell reads its filling.
@@ -145,71 +109,44 @@ fn has_dead(pins: &[Pin]) -> bool
     }
 }
 
-fn register_passes<E: Earlier>(
-    circuit: &Circuit<'_>,
-    earlier: &E,
-    place: usize,
-    spot: Spot,
-    latching: &Latching,
-) -> bool
-    requires spot { IsSpot (job_in circuit.now) place spot }
-    requires register { FitsRegister (job_in circuit.now).udps (job_in circuit.now).width latching.now }
-    requires certain { (k : ℕ) → k < place → E.has earlier.now k }
-    requires facts { AreFacts (job_in circuit.now) (E.reads earlier.now) (E.facts earlier.now) place }
-    ensures { result ≡ register_passes (job_in circuit.now) (E.reads earlier.now) spot.step latching.now }
+fn register_passes<E: Earlier>(asked: &Asked<'_, E>, spot: Spot, latching: &Latching) -> bool
+    requires spot { IsSpot (job_in asked.now.circuit.now) asked.now.place spot }
+    requires register { let j = job_in asked.now.circuit.now in FitsRegister j.udps j.width latching.now }
+    ensures { let asked = asked.now in
+        result ≡ register_passes (job_in asked.circuit.now) (E.reads asked.earlier.now) spot.step latching.now }
 {
     if spot.step <= 1 {
         return false;
     }
-    if clock_was_uncertain(circuit, earlier, spot.step, latching) {
+    if clock_was_uncertain(asked.circuit, asked.earlier, spot.step, latching) {
         return false;
     }
-    pins_keep(
-        circuit,
-        earlier,
-        place,
-        spot.step - 1,
-        latching.pins.as_slice(),
-    )
+    pins_keep(asked, spot.step - 1, latching.pins.as_slice())
 }
 
 /// Whether the nets of pins all keep at a step.
-pub fn pins_keep<E: Earlier>(
-    circuit: &Circuit<'_>,
-    earlier: &E,
-    place: usize,
-    step: usize,
-    pins: &[Pin],
-) -> bool
-    requires certain { (k : ℕ) → k < place → E.has earlier.now k }
-    requires facts { AreFacts (job_in circuit.now) (E.reads earlier.now) (E.facts earlier.now) place }
-    requires nets { AllByRecursion (Reach (job_in circuit.now) (λ k. k < place) step) (net_pins pins.now) }
-    requires small { step * (job_in circuit.now).width + (job_in circuit.now).width ≤ 2 ^ 40 }
-    ensures { result ≡ nets_keep (job_in circuit.now) (E.reads earlier.now) step (net_pins pins.now) }
+fn pins_keep<E: Earlier>(asked: &Asked<'_, E>, step: usize, pins: &[Pin]) -> bool
+    requires nets { let asked = asked.now in
+        AllByRecursion (Reach (job_in asked.circuit.now) (λ k. k < asked.place) step) (net_pins pins.now) }
+    requires small { let j = job_in asked.now.circuit.now in step * j.width + j.width ≤ 2 ^ 40 }
+    ensures { let asked = asked.now in
+        result ≡ nets_keep (job_in asked.circuit.now) (E.reads asked.earlier.now) step (net_pins pins.now) }
 {
     match pins {
         [] => true,
-        [Pin::Net(net), rest @ ..] => net_keeps(circuit, earlier, place, step, *net)
-            && pins_keep(circuit, earlier, place, step, rest),
-        [_, rest @ ..] => pins_keep(circuit, earlier, place, step, rest),
+        [Pin::Net(net), rest @ ..] => net_keeps(asked, step, *net) && pins_keep(asked, step, rest),
+        [_, rest @ ..] => pins_keep(asked, step, rest),
     }
 }
 
-/// Whether a net keeps at a step, where its place stands before another.
-pub fn net_keeps<E: Earlier>(
-    circuit: &Circuit<'_>,
-    earlier: &E,
-    place: usize,
-    step: usize,
-    net: u32,
-) -> bool
-    requires certain { (k : ℕ) → k < place → E.has earlier.now k }
-    requires facts { AreFacts (job_in circuit.now) (E.reads earlier.now) (E.facts earlier.now) place }
-    requires net { Reach (job_in circuit.now) (λ k. k < place) step net }
-    requires small { step * (job_in circuit.now).width + (job_in circuit.now).width ≤ 2 ^ 40 }
-    ensures { result ≡ net_keeps (job_in circuit.now) (E.reads earlier.now) step net }
+/// Whether a net keeps at a step, where its place stands before the one that is asked.
+fn net_keeps<E: Earlier>(asked: &Asked<'_, E>, step: usize, net: u32) -> bool
+    requires net { let asked = asked.now in Reach (job_in asked.circuit.now) (λ k. k < asked.place) step net }
+    requires small { let j = job_in asked.now.circuit.now in step * j.width + j.width ≤ 2 ^ 40 }
+    ensures { let asked = asked.now in
+        result ≡ net_keeps (job_in asked.circuit.now) (E.reads asked.earlier.now) step net }
 {
-    earlier.keeps(number_at(circuit, step, net))
+    asked.earlier.keeps(number_at(asked.circuit, step, net))
 }
 
 /// Whether a net keeps at a place, given its certain value there and whether its class is Carried from the step before,

@@ -7,6 +7,7 @@
 #![tactic(auto)]
 
 mod arguments;
+mod asked;
 mod assigned;
 mod classify;
 mod earlier;
@@ -21,9 +22,9 @@ mod test;
 mod tried;
 
 pub use arguments::{ArgumentsByNumber, argument_places, uncertain_places};
+pub use asked::Asked;
 pub use assigned::{Assigned, Numbered, rule_value};
 pub use classify::{class_at, kept_class};
 pub use earlier::Earlier;
-pub use every::passes_every;
-pub use keeps::{cell_chooses, keeps_here, net_keeps, place_before};
+pub use keeps::{cell_chooses, keeps_here, place_before};
 pub use test::Test;

@@ -1,20 +1,19 @@
 //! The class of a place some of whose arguments have moved. Where they are all certain there is one assignment, so that
 //! nothing is tried: the class is what the driver makes of their values.
 
-ghost use Rattle.std.specs.Prelude.{◌≡◌, ℕ, ◌+◌, ◌%◌, ◌<◌, ◌≤◌, ◌∷◌, [], length, take};
+ghost use Rattle.std.specs.Prelude.{◌≡◌, ◌+◌, ◌<◌, ◌≤◌, ◌∷◌, [], length, take};
 ghost use Rattle.std.specs.Bool.{OnTrue};
 ghost use Rattle.std.specs.List.{AllByRecursion};
 ghost use Rattle.design_cell.specs.declared.value.Value.{Value as AnyValue};
 ghost use Rattle.design_circuit.specs.Circuit.{job_in};
-ghost use Rattle.design_circuit.specs.Job.{places_of};
 ghost use Rattle.design_circuit.specs.Order.{net_pins};
 ghost use Rattle.design_circuit.specs.Register.{pin_of};
 ghost use Rattle.design_wiring.specs.declared.wiring.Kind.TheVariants as kind;
-ghost use Rattle.wave_class.specs.Facts.{AreFacts};
 ghost use Rattle.wave_class.specs.Keeps.{class_here};
 ghost use Rattle.wave_class.specs.Wires as spec;
 ghost use Rattle.wave_class.specs.Wires.{PlaceSeesKnown, Reaches, Stands, StandsCell};
 
+use crate::asked::Asked;
 use crate::earlier::Earlier;
 use crate::quick::plain_class;
 use crate::tried::tried_class;
@@ -25,83 +24,55 @@ use design_circuit::{
 use law_model::ClassByNumber;
 
 /// The class of a cell's place.
-pub fn moved_cell<E: Earlier>(
-    circuit: &Circuit<'_>,
-    earlier: &E,
-    place: usize,
-    position: usize,
-    table: Table,
-    pins: &[Pin],
-) -> ClassByNumber
-    requires within { place < places_of (job_in circuit.now) }
-    requires position { position ≡ place % (job_in circuit.now).width }
-    requires stands { StandsCell (job_in circuit.now) place table pins.now }
-    requires certain { (k : ℕ) → k < place → E.has earlier.now k }
-    requires facts { AreFacts (job_in circuit.now) (E.reads earlier.now) (E.facts earlier.now) place }
-    ensures { result ≡ class_here (job_in circuit.now) (E.reads earlier.now) place }
+pub fn moved_cell<E: Earlier>(asked: &Asked<'_, E>, table: Table, pins: &[Pin]) -> ClassByNumber
+    requires stands { StandsCell (job_in asked.now.circuit.now) asked.now.place table pins.now }
+    ensures { result ≡ class_here (job_in asked.now.circuit.now) (E.reads asked.now.earlier.now) asked.now.place }
 {
-    let first = place - position;
-    if positions_known(earlier, first, pins) {
-        let values = values_there(earlier, first, pins);
-        plain_class(table_value(circuit, table, &values[..pins.len()]))
+    let first = asked.place - asked.position;
+    if positions_known(asked.earlier, first, pins) {
+        let values = values_there(asked.earlier, first, pins);
+        plain_class(table_value(asked.circuit, table, &values[..pins.len()]))
     } else {
-        tried_class(circuit, earlier, place)
+        tried_class(asked)
     }
 }
 
 /// The class of a register's place.
-pub fn moved_register<E: Earlier>(
-    circuit: &Circuit<'_>,
-    earlier: &E,
-    place: usize,
-    position: usize,
-    pins: &[Pin],
-) -> ClassByNumber
-    requires within { place < places_of (job_in circuit.now) }
-    requires position { position ≡ place % (job_in circuit.now).width }
-    requires stands { Stands (job_in circuit.now) place kind.Register pins.now }
-    requires certain { (k : ℕ) → k < place → E.has earlier.now k }
-    requires facts { AreFacts (job_in circuit.now) (E.reads earlier.now) (E.facts earlier.now) place }
-    ensures { result ≡ class_here (job_in circuit.now) (E.reads earlier.now) place }
+pub fn moved_register<E: Earlier>(asked: &Asked<'_, E>, pins: &[Pin]) -> ClassByNumber
+    requires stands { Stands (job_in asked.now.circuit.now) asked.now.place kind.Register pins.now }
+    ensures { result ≡ class_here (job_in asked.now.circuit.now) (E.reads asked.now.earlier.now) asked.now.place }
 {
-    if !sees_known(circuit, earlier, place, position, pins) {
-        return tried_class(circuit, earlier, place);
+    if !sees_known(asked, pins) {
+        return tried_class(asked);
     }
-    let kept = earlier.value(place - width_of(circuit));
-    let spot = spot_of(circuit, place);
+    let circuit = asked.circuit;
+    let kept = asked.earlier.value(asked.place - width_of(circuit));
+    let spot = spot_of(circuit, asked.place);
     match driver_at(circuit, spot.net) {
         Driver::Register(latching) => {
-            plain_class(remade_value(circuit, earlier, kept, spot.step, latching))
+            plain_class(remade_value(circuit, asked.earlier, kept, spot.step, latching))
         }
-        _ => tried_class(circuit, earlier, place),
+        _ => tried_class(asked),
     }
 }
 
 /// Whether a register sees certain values alone.
-fn sees_known<E: Earlier>(
-    circuit: &Circuit<'_>,
-    earlier: &E,
-    place: usize,
-    position: usize,
-    pins: &[Pin],
-) -> bool
-    requires within { place < places_of (job_in circuit.now) }
-    requires position { position ≡ place % (job_in circuit.now).width }
-    requires stands { Stands (job_in circuit.now) place kind.Register pins.now }
-    requires certain { (k : ℕ) → k < place → E.has earlier.now k }
-    ensures later { OnTrue result ((job_in circuit.now).width ≤ place) }
-    ensures known { OnTrue result (PlaceSeesKnown (job_in circuit.now) (E.reads earlier.now) place) }
+fn sees_known<E: Earlier>(asked: &Asked<'_, E>, pins: &[Pin]) -> bool
+    requires stands { Stands (job_in asked.now.circuit.now) asked.now.place kind.Register pins.now }
+    ensures later { OnTrue result ((job_in asked.now.circuit.now).width ≤ asked.now.place) }
+    ensures known { let asked = asked.now in
+        OnTrue result (PlaceSeesKnown (job_in asked.circuit.now) (E.reads asked.earlier.now) asked.place) }
 {
-    let width = width_of(circuit);
-    let first = place - position;
+    let width = width_of(asked.circuit);
+    let first = asked.place - asked.position;
     if first < 3 * width {
         return false;
     }
-    if !earlier.value(place - width).is_known() {
+    if !asked.earlier.value(asked.place - width).is_known() {
         return false;
     }
-    positions_known(earlier, first - width, pins)
-        && positions_known(earlier, first - width - width, pins)
+    positions_known(asked.earlier, first - width, pins)
+        && positions_known(asked.earlier, first - width - width, pins)
 }
 
 /// Whether the nets of pins, named by their positions, are all certain at the step whose first place has a number.

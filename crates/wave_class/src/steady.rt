@@ -1,53 +1,47 @@
 //! The class of a place whose arguments are as they were a step before: that of its net's place there.
 
-ghost use Rattle.std.specs.Prelude.{◌≡◌, ℕ, ◌-◌, ◌%◌, ◌<◌, ◌≤◌, ◌&&◌, not, true};
+ghost use Rattle.std.specs.Prelude.{◌≡◌, ◌-◌, ◌<◌, ◌≤◌, ◌&&◌, not, true};
 ghost use Rattle.std.specs.Bool.{OnTrue};
 ghost use Rattle.std.specs.List.{AllByRecursion};
 ghost use Rattle.design_cell.specs.declared.value.Value.{Value as AnyValue};
 ghost use Rattle.design_circuit.specs.Circuit.{job_in};
-ghost use Rattle.design_circuit.specs.Job.{places_of};
 ghost use Rattle.design_circuit.specs.Order.{net_pins};
 ghost use Rattle.design_wiring.specs.declared.wiring.Kind.TheVariants as kind;
-ghost use Rattle.wave_class.specs.Facts.{AgreeBefore, AllKeep, AreFacts, is_open as is_told_open};
+ghost use Rattle.wave_class.specs.Facts.{AllKeep, is_open as is_told_open};
 ghost use Rattle.wave_class.specs.Keeps.{cell_chooses as chooses, class_here};
 ghost use Rattle.wave_class.specs.Wires.{PlaceSeesTheSame, Reaches, Stands, StandsCell, positions_keep};
 
+use crate::asked::Asked;
 use crate::earlier::Earlier;
 use crate::keeps::cell_chooses;
 use crate::moved::{moved_cell, moved_register};
 use crate::quick::plain_class;
 use design_cell::Value;
-use design_circuit::{Circuit, Pin, Source, Table, width_of};
+use design_circuit::{Pin, Source, Table, width_of};
 use law_model::ClassByNumber;
 
 /// The class of a cell's place. Where its pins keep it gives at the step before what it gives here; so they do where
 /// all places before it in its step keep.
 pub fn cell_class<E: Earlier>(
-    circuit: &Circuit<'_>,
-    earlier: &E,
-    place: usize,
-    position: usize,
+    asked: &Asked<'_, E>,
     table: Table,
     pins: &[Pin],
     all_keep: bool,
 ) -> ClassByNumber
-    requires within { place < places_of (job_in circuit.now) }
-    requires position { position ≡ place % (job_in circuit.now).width }
-    requires stands { StandsCell (job_in circuit.now) place table pins.now }
-    requires certain { (k : ℕ) → k < place → E.has earlier.now k }
-    requires facts { AreFacts (job_in circuit.now) (E.reads earlier.now) (E.facts earlier.now) place }
-    requires agrees { AgreeBefore (job_in circuit.now) (E.reads earlier.now) place }
-    requires keep { OnTrue all_keep (AllKeep (E.facts earlier.now) (place - position) place) }
-    ensures { result ≡ class_here (job_in circuit.now) (E.reads earlier.now) place }
+    requires stands { StandsCell (job_in asked.now.circuit.now) asked.now.place table pins.now }
+    requires keep { let asked = asked.now in
+        OnTrue all_keep (AllKeep (E.facts asked.earlier.now) (asked.place - asked.position) asked.place) }
+    ensures { result ≡ class_here (job_in asked.now.circuit.now) (E.reads asked.now.earlier.now) asked.now.place }
 {
-    let width = width_of(circuit);
-    if place < width {
-        return moved_cell(circuit, earlier, place, position, table, pins);
+    let width = width_of(asked.circuit);
+    if asked.place < width {
+        return moved_cell(asked, table, pins);
     }
-    if !pins_keep(earlier, place - position, pins, all_keep) {
-        return moved_cell(circuit, earlier, place, position, table, pins);
+    let earlier = asked.earlier;
+    if !pins_keep(earlier, asked.place - asked.position, pins, all_keep) {
+        return moved_cell(asked, table, pins);
     }
-    let back = place - width;
+    let back = asked.place - width;
     if earlier.is_plain(back) {
         plain_class(earlier.value(back))
     } else if earlier.is_carried_on(back) {
@@ -55,7 +49,7 @@ pub fn cell_class<E: Earlier>(
     } else if is_passed_line(earlier, back, table, pins) {
         ClassByNumber::Carried(back, false)
     } else {
-        moved_cell(circuit, earlier, place, position, table, pins)
+        moved_cell(asked, table, pins)
     }
 }
 
@@ -77,31 +71,21 @@ fn pins_keep<E: Earlier>(earlier: &E, first: usize, pins: &[Pin], all_keep: bool
 }
 
 /// The class of a register's place. Where it sees the step before what it sees here, it does the same.
-pub fn register_class<E: Earlier>(
-    circuit: &Circuit<'_>,
-    earlier: &E,
-    place: usize,
-    position: usize,
-    pins: &[Pin],
-) -> ClassByNumber
-    requires within { place < places_of (job_in circuit.now) }
-    requires position { position ≡ place % (job_in circuit.now).width }
-    requires stands { Stands (job_in circuit.now) place kind.Register pins.now }
-    requires certain { (k : ℕ) → k < place → E.has earlier.now k }
-    requires facts { AreFacts (job_in circuit.now) (E.reads earlier.now) (E.facts earlier.now) place }
-    requires agrees { AgreeBefore (job_in circuit.now) (E.reads earlier.now) place }
-    ensures { result ≡ class_here (job_in circuit.now) (E.reads earlier.now) place }
+pub fn register_class<E: Earlier>(asked: &Asked<'_, E>, pins: &[Pin]) -> ClassByNumber
+    requires stands { Stands (job_in asked.now.circuit.now) asked.now.place kind.Register pins.now }
+    ensures { result ≡ class_here (job_in asked.now.circuit.now) (E.reads asked.now.earlier.now) asked.now.place }
 {
-    if !sees_the_same(circuit, earlier, place, position, pins) {
-        return moved_register(circuit, earlier, place, position, pins);
+    if !sees_the_same(asked, pins) {
+        return moved_register(asked, pins);
     }
-    let back = place - width_of(circuit);
+    let earlier = asked.earlier;
+    let back = asked.place - width_of(asked.circuit);
     if earlier.is_plain(back) {
         plain_class(earlier.value(back))
     } else if is_open(earlier, back) {
         ClassByNumber::Carried(back, false)
     } else {
-        moved_register(circuit, earlier, place, position, pins)
+        moved_register(asked, pins)
     }
 }
 
@@ -114,28 +98,20 @@ fn is_open<E: Earlier>(earlier: &E, place: usize) -> bool
 }
 
 /// Whether a register looks back at what it looked back at a step before.
-fn sees_the_same<E: Earlier>(
-    circuit: &Circuit<'_>,
-    earlier: &E,
-    place: usize,
-    position: usize,
-    pins: &[Pin],
-) -> bool
-    requires within { place < places_of (job_in circuit.now) }
-    requires position { position ≡ place % (job_in circuit.now).width }
-    requires stands { Stands (job_in circuit.now) place kind.Register pins.now }
-    requires certain { (k : ℕ) → k < place → E.has earlier.now k }
-    requires facts { AreFacts (job_in circuit.now) (E.reads earlier.now) (E.facts earlier.now) place }
-    ensures later { OnTrue result ((job_in circuit.now).width ≤ place) }
-    ensures same { OnTrue result (PlaceSeesTheSame (job_in circuit.now) (E.reads earlier.now) place) }
+fn sees_the_same<E: Earlier>(asked: &Asked<'_, E>, pins: &[Pin]) -> bool
+    requires stands { Stands (job_in asked.now.circuit.now) asked.now.place kind.Register pins.now }
+    ensures later { OnTrue result ((job_in asked.now.circuit.now).width ≤ asked.now.place) }
+    ensures same { let asked = asked.now in
+        OnTrue result (PlaceSeesTheSame (job_in asked.circuit.now) (E.reads asked.earlier.now) asked.place) }
 {
-    let width = width_of(circuit);
-    let first = place - position;
+    let width = width_of(asked.circuit);
+    let earlier = asked.earlier;
+    let first = asked.place - asked.position;
     if first < 3 * width {
         return false;
     }
-    let here = earlier.value(place - width);
-    let before = earlier.value(place - width - width);
+    let here = earlier.value(asked.place - width);
+    let before = earlier.value(asked.place - width - width);
     if !is_same(here, before) {
         return false;
     }

@@ -1,19 +1,18 @@
 //! The class of a place, by trying assignments.
 
-ghost use Rattle.std.specs.Prelude.{◌≡◌, ℕ, ◌<◌, ◌≤◌, length, Contains};
+ghost use Rattle.std.specs.Prelude.{◌≡◌, ◌<◌, Contains};
 ghost use Rattle.std.specs.List.{AllByRecursion};
 ghost use Rattle.design_cell.specs.declared.value.Value.{Value as AnyValue};
 ghost use Rattle.design_circuit.specs.Circuit.{job_in};
-ghost use Rattle.design_circuit.specs.Job.{places_of};
 ghost use Rattle.design_circuit.specs.Rule.{arguments};
 ghost use Rattle.law_model.specs.Class.{is_carrier};
 ghost use Rattle.wave_class.specs.Arguments.{uncertain_places};
 ghost use Rattle.wave_class.specs.Ends as spec;
 ghost use Rattle.wave_class.specs.Ends.{AreEnds};
-ghost use Rattle.wave_class.specs.Facts.{AreFacts};
 ghost use Rattle.wave_class.specs.Keeps.{class_here, copy_or_line, later_class};
 
 use crate::arguments::uncertain_places;
+use crate::asked::{Asked, Uncertain};
 use crate::earlier::Earlier;
 use crate::ends::{Ends, ends_of};
 use crate::every::passes_every;
@@ -21,110 +20,74 @@ use crate::keeps::{passes_on, place_before};
 use crate::quick::{plain_class, settled_class};
 use crate::ruled::ruled_arguments;
 use crate::test::Test;
-use design_circuit::{Circuit, Source};
 use law_model::ClassByNumber;
 
 /// The class of a place, by what its rule gives.
-pub fn tried_class<E: Earlier>(circuit: &Circuit<'_>, earlier: &E, place: usize) -> ClassByNumber
-    requires within { place < places_of (job_in circuit.now) }
-    requires certain { (k : ℕ) → k < place → E.has earlier.now k }
-    requires facts { AreFacts (job_in circuit.now) (E.reads earlier.now) (E.facts earlier.now) place }
-    ensures { result ≡ class_here (job_in circuit.now) (E.reads earlier.now) place }
+pub fn tried_class<E: Earlier>(asked: &Asked<'_, E>) -> ClassByNumber
+    ensures { result ≡ class_here (job_in asked.now.circuit.now) (E.reads asked.now.earlier.now) asked.now.place }
 {
-    let uncertain = uncertain_places(circuit, earlier, place);
-    let places = uncertain.as_slice();
+    let found = uncertain_places(asked.circuit, asked.earlier, asked.place);
+    let places = found.as_slice();
     if places.is_empty() {
-        settled_class(circuit, earlier, place)
+        settled_class(asked)
     } else {
-        first_class(circuit, earlier, place, places)
+        first_class(&Uncertain { asked, places })
     }
 }
 
-fn first_class<E: Earlier>(
-    circuit: &Circuit<'_>,
-    earlier: &E,
-    place: usize,
-    uncertain: &[usize],
-) -> ClassByNumber
-    requires within { place < places_of (job_in circuit.now) }
-    requires certain { (k : ℕ) → k < place → E.has earlier.now k }
-    requires facts { AreFacts (job_in circuit.now) (E.reads earlier.now) (E.facts earlier.now) place }
-    requires few { length uncertain.now ≤ 13 }
-    requires uncertain { uncertain.now ≡ uncertain_places (job_in circuit.now) (E.reads earlier.now) place }
-    ensures { result ≡ class_here (job_in circuit.now) (E.reads earlier.now) place }
+fn first_class<E: Earlier>(uncertain: &Uncertain<'_, E>) -> ClassByNumber
+    ensures { let asked = uncertain.now.asked.now in
+        result ≡ class_here (job_in asked.circuit.now) (E.reads asked.earlier.now) asked.place }
 {
-    let ends = ends_of(circuit, earlier, place, uncertain);
+    let ends = ends_of(uncertain);
     if ends.are_mixed() {
-        later_class(circuit, earlier, place, uncertain, ends)
-    } else if passes_every(circuit, earlier, place, uncertain, ends.test()) {
+        later_class(uncertain, ends)
+    } else if passes_every(uncertain, ends.test()) {
         plain_class(ends.first)
     } else {
-        later_class(circuit, earlier, place, uncertain, ends)
+        later_class(uncertain, ends)
     }
 }
 
 /// The class of a place that is neither local nor free.
-fn later_class<E: Earlier>(
-    circuit: &Circuit<'_>,
-    earlier: &E,
-    place: usize,
-    uncertain: &[usize],
-    ends: Ends,
-) -> ClassByNumber
-    requires within { place < places_of (job_in circuit.now) }
-    requires certain { (k : ℕ) → k < place → E.has earlier.now k }
-    requires facts { AreFacts (job_in circuit.now) (E.reads earlier.now) (E.facts earlier.now) place }
-    requires few { length uncertain.now ≤ 13 }
-    requires uncertain { uncertain.now ≡ uncertain_places (job_in circuit.now) (E.reads earlier.now) place }
-    requires ends { AreEnds (job_in circuit.now) (E.reads earlier.now) place uncertain.now ends }
-    ensures { result ≡ later_class (job_in circuit.now) (E.reads earlier.now) place }
+fn later_class<E: Earlier>(uncertain: &Uncertain<'_, E>, ends: Ends) -> ClassByNumber
+    requires ends { let asked = uncertain.now.asked.now in
+        AreEnds (job_in asked.circuit.now) (E.reads asked.earlier.now) asked.place uncertain.now.places.now ends }
+    ensures { let asked = uncertain.now.asked.now in
+        result ≡ later_class (job_in asked.circuit.now) (E.reads asked.earlier.now) asked.place }
 {
-    if passes_on(circuit, earlier, place, uncertain) {
-        ClassByNumber::Carried(place_before(circuit, place), false)
+    if passes_on(uncertain) {
+        let asked = uncertain.asked;
+        ClassByNumber::Carried(place_before(asked.circuit, asked.place), false)
     } else {
-        carried_or_line(circuit, earlier, place, uncertain, ends)
+        carried_or_line(uncertain, ends)
     }
 }
 
 /// The first of its argument places that a place is carried from, if there is one.
-fn carried_or_line<C: Source>(
-    circuit: &Circuit<'_>,
-    certain: &C,
-    place: usize,
-    uncertain: &[usize],
-    ends: Ends,
-) -> ClassByNumber
-    requires within { place < places_of (job_in circuit.now) }
-    requires certain { (k : ℕ) → k < place → C.has certain.now k }
-    requires few { length uncertain.now ≤ 13 }
-    requires uncertain { uncertain.now ≡ uncertain_places (job_in circuit.now) (C.reads certain.now) place }
-    requires ends { AreEnds (job_in circuit.now) (C.reads certain.now) place uncertain.now ends }
-    ensures { result ≡ copy_or_line (job_in circuit.now) (C.reads certain.now) place }
+fn carried_or_line<E: Earlier>(uncertain: &Uncertain<'_, E>, ends: Ends) -> ClassByNumber
+    requires ends { let asked = uncertain.now.asked.now in
+        AreEnds (job_in asked.circuit.now) (E.reads asked.earlier.now) asked.place uncertain.now.places.now ends }
+    ensures { let asked = uncertain.now.asked.now in
+        result ≡ copy_or_line (job_in asked.circuit.now) (E.reads asked.earlier.now) asked.place }
 {
     match ends.inverted() {
-        Some(inverted) => copied_or_line(circuit, certain, place, uncertain, inverted),
+        Some(inverted) => copied_or_line(uncertain, inverted),
         None => ClassByNumber::Line,
     }
 }
 
 /// The first of its argument places that a place is carried from, inverted or not as is told.
-fn copied_or_line<C: Source>(
-    circuit: &Circuit<'_>,
-    certain: &C,
-    place: usize,
-    uncertain: &[usize],
-    inverted: bool,
-) -> ClassByNumber
-    requires within { place < places_of (job_in circuit.now) }
-    requires certain { (k : ℕ) → k < place → C.has certain.now k }
-    requires few { length uncertain.now ≤ 13 }
-    requires uncertain { uncertain.now ≡ uncertain_places (job_in circuit.now) (C.reads certain.now) place }
-    ensures { let j = job_in circuit.now in let reads = C.reads certain.now in
-        result ≡ spec.copied_or_line j reads place inverted (arguments j reads place) }
+fn copied_or_line<E: Earlier>(uncertain: &Uncertain<'_, E>, inverted: bool) -> ClassByNumber
+    ensures { let asked = uncertain.now.asked.now in
+        let j = job_in asked.circuit.now in
+        let reads = E.reads asked.earlier.now in
+        result ≡ spec.copied_or_line j reads asked.place inverted (arguments j reads asked.place) }
 {
-    let ruled = ruled_arguments(circuit, certain, place);
+    let asked = uncertain.asked;
+    let ruled = ruled_arguments(asked.circuit, asked.earlier, asked.place);
     'rest: for from in ruled.as_slice() {
-        if is_carrier(circuit, certain, place, uncertain, *from, inverted) {
+        if is_carrier(uncertain, *from, inverted) {
             return ClassByNumber::Carried(*from, inverted);
         }
     }
@@ -132,29 +95,14 @@ fn copied_or_line<C: Source>(
 }
 
 /// Whether a place is carried from one of its argument places, as it is or inverted.
-fn is_carrier<C: Source>(
-    circuit: &Circuit<'_>,
-    certain: &C,
-    place: usize,
-    uncertain: &[usize],
-    from: usize,
-    inverted: bool,
-) -> bool
-    requires within { place < places_of (job_in circuit.now) }
-    requires certain { (k : ℕ) → k < place → C.has certain.now k }
-    requires few { length uncertain.now ≤ 13 }
-    requires uncertain { uncertain.now ≡ uncertain_places (job_in circuit.now) (C.reads certain.now) place }
-    requires from { Contains (arguments (job_in circuit.now) (C.reads certain.now) place) from }
-    ensures { result ≡ is_carrier (job_in circuit.now) (C.reads certain.now) place from inverted }
+fn is_carrier<E: Earlier>(uncertain: &Uncertain<'_, E>, from: usize, inverted: bool) -> bool
+    requires from { let asked = uncertain.now.asked.now in
+        Contains (arguments (job_in asked.circuit.now) (E.reads asked.earlier.now) asked.place) from }
+    ensures { let asked = uncertain.now.asked.now in
+        result ≡ is_carrier (job_in asked.circuit.now) (E.reads asked.earlier.now) asked.place from inverted }
 {
-    if certain.value(from).is_known() {
+    if uncertain.asked.earlier.value(from).is_known() {
         return false;
     }
-    passes_every(
-        circuit,
-        certain,
-        place,
-        uncertain,
-        Test::Copies(from, inverted),
-    )
+    passes_every(uncertain, Test::Copies(from, inverted))
 }

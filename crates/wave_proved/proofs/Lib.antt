@@ -1,8 +1,9 @@
 -- Lemmas on waves.
-mod FoundLines
+pub mod FoundLines
 mod GoingRuns
 mod LineGrowth
 mod NextClass
+pub mod NextLines
 mod OneWave
 mod RootPlaces
 mod WaveGrowth

@@ -44,6 +44,11 @@ pub record HoldsWithoutLog (c : Contents) (line : ALine) : Type 0 where
   pub holds : LineHolds c line
   pub no_log : HasNoLog line.body
 
+-- Such a body holds at the next place.
+pub record HoldsBare (c : Contents) (body : Body) : Type 0 where
+  pub holds : HoldsNext c body
+  pub no_log : HasNoLog body
+
 -- The next place is a Line place.
 abbrev pub IsLineNext : Contents → Type 0
 IsLineNext c = next_seen c ≡ seen.Line

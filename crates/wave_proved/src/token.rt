@@ -43,6 +43,14 @@ impl Verdict {
         &self.line.body
     }
 
+    /// What it says of the place; with that the verdict is given up.
+    pub fn into_body(self) -> Body
+        ensures { result ≡ self.body }
+    {
+        let Verdict { line } = self;
+        line.body
+    }
+
     pub(crate) fn into_line(self) -> Line
         ensures { result ≡ self }
     {

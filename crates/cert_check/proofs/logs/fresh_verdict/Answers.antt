@@ -1,9 +1,10 @@
 -- The licence, or the log isn't one.
+use Rattle.decide_cnf.proofs.NextAnswers.{fresh_next}
 use Rattle.std.proofs.Common.{◌∙◌, ap, subst, sym}
 use Rattle.std.specs.List.{All}
 use Rattle.sat_proof.specs.Assignment.{HasNoZero}
 use Rattle.law_model.specs.declared.line.Body.TheVariants.{Undecided}
-use Rattle.cert_check.proofs.Refusing.{fresh_next, log_fits, no_truth, stale_refuses, verdict_made}
+use Rattle.cert_check.proofs.Refusing.{log_fits, no_truth, stale_refuses, verdict_made}
 use Rattle.cert_check.proofs.logs.fresh_verdict.Goals as goal
 
 pub returns-clause-none : goal.returns-clause-none

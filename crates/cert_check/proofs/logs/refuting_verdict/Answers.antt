@@ -1,10 +1,11 @@
 -- The verdict, or the log doesn't refute.
+use Rattle.decide_cnf.proofs.NextAnswers.{refutes_next}
 use Rattle.std.proofs.Common.{ap, ◌∙◌, subst}
 use Rattle.std.specs.List.{All}
 use Rattle.sat_proof.specs.Assignment.{HasNoZero}
 use Rattle.decide_nodes.specs.Nodes.{nothing, root_bit}
 use Rattle.law_model.specs.declared.line.Body.TheVariants.{Refuted}
-use Rattle.cert_check.proofs.Refusing.{log_fits, log_refuses, no_truth, refutes_next, verdict_made}
+use Rattle.cert_check.proofs.Refusing.{log_fits, log_refuses, no_truth, verdict_made}
 use Rattle.cert_check.proofs.logs.refuting_verdict.Goals as goal
 
 pub returns-clause-none : goal.returns-clause-none

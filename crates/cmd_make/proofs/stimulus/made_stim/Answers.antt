@@ -4,7 +4,7 @@ use Rattle.design_cell.specs.declared.value.Value.{Value}
 use Rattle.design_inputs.specs.Rows.{HasWidth, moment_row}
 use Rattle.recording_binding.specs.StimOf.{IsRow}
 use Rattle.cmd_make.specs.Stimulus.{made_start, made_value}
-use Rattle.cmd_make.proofs.Fitting.{rows_even, stim_fits, times_length}
+use Rattle.cmd_make.proofs.Fitting.{rows_even, stim_fits, times_length, times_small}
 use Rattle.cmd_make.proofs.stimulus.made_stim.Goals as goal
 
 pub from_rows-requires-clause-some : goal.from_rows-requires-clause-some
@@ -35,6 +35,7 @@ invariant_of-result c =
       some_round = omega arith;
       few_rounds = omega arith;
       rows = inputs ∙ sym times;
+      small_times = subst (All (λ time. time < 2 ^ 64)) (sym (c.from_vec.ensures ∙ c.in_ok-times.ensures)) (times_small 16 (omega arith));
     }
 
 pub returns-clause-fits : goal.returns-clause-fits

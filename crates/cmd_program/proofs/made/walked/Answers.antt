@@ -16,7 +16,6 @@ returns-clause-prepared g c =
     c.in_ok-answered.field-0
     record {
       fits = c.requires.fits;
-      times = c.read_times.ensures;
       replay = c.requires.replay;
       repaired = c.in_ok-wave.ensures.repaired;
       shows = shows_wave c.in_ok-wave.wave;

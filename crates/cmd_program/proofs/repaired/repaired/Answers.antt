@@ -11,7 +11,7 @@ pub returns-clause-prepared : goal.returns-clause-prepared
 returns-clause-prepared g c = walk_found (repair_values c.args.words.now) c.args.job.now.netlist c.args.job.now.recorded
     record { history = c.args.history.now; wave = c.in_ok-wave.wave; shown = c.in_ok-texts_of.ensures.shown }
     c.in_ok-texts_of.ensures.conditions c.in_ok-texts_of.field-0
-    record { fits = c.requires.fits; times = c.in_ok-texts_of.ensures.times; replay = c.requires.replay; repaired = c.in_ok-wave.ensures.repaired; shows = c.in_ok-texts_of.ensures.shows }
+    record { fits = c.requires.fits; replay = c.requires.replay; repaired = c.in_ok-wave.ensures.repaired; shows = c.in_ok-texts_of.ensures.shows }
     c.in_ok-texts_of.ensures.conditions_are c.in_ok-texts_of.ensures.is
 
 pub returns-in_err-texts_of-clause-prepared : goal.returns-in_err-texts_of-clause-prepared

@@ -28,7 +28,7 @@ pub returns : goal.returns
 returns c = wave_texts (repair_values c.args.words.now) c.args.netlist.now c.args.recorded.now c.args.wave.now (shown_history c.args.wave.now)
     c.in_ok-forces.forces c.as_slice.result.now c.in_ok-vcd.vcd.items c.in_ok-code.code.items c.in_ok-cert.cert.items c.in_ok-report.report.items
     c.form_of-form.result c.in_ok-conditions.conditions.items c.as_slice-listed.result.now
-    c.read_times.ensures (shows_wave c.args.wave.now) (forces_are c.args.wave.now c.in_ok-forces.forces c.in_ok-forces.ensures)
+    (shows_wave c.args.wave.now) (forces_are c.args.wave.now c.in_ok-forces.forces c.in_ok-forces.ensures)
     (c.as_slice.ensures.value ∙ c.in_ok-scope.ensures.pieces) (c.in_ok-vcd.ensures ∙ wave_vcd c.args.netlist.now c.args.recorded.now c.args.wave.now (shown_history c.args.wave.now) c.requires.wave)
     c.in_ok-code.ensures c.form_of-form.ensures c.in_ok-conditions.ensures
     c.as_slice-listed.ensures.value c.in_ok-cert.ensures c.in_ok-report.ensures

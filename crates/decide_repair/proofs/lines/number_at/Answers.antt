@@ -7,7 +7,8 @@ use Rattle.law_model.specs.Yields.{places_of_lines}
 use Rattle.law_model.specs.declared.line.Line.{Line as ALine}
 use Rattle.wave_proved.specs.Contents.{job}
 use Rattle.wave_proved.specs.Pairs.{numbers_of}
-use Rattle.decide_repair.proofs.WaveLines.{lines_placed, number_here, place_here}
+use Rattle.decide_repair.proofs.WaveLines.{lines_placed}
+use Rattle.wave_proved.proofs.FoundLines.{number_here, place_here}
 use Rattle.decide_repair.proofs.lines.number_at.Goals as goal
 
 pub number_of-requires : goal.number_of-requires

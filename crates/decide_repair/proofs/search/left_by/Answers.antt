@@ -1,5 +1,6 @@
 -- The log is a licence, and names variables of the query alone.
-use Rattle.decide_repair.proofs.Searching.{fresh_next, licence_accepted}
+use Rattle.decide_cnf.proofs.NextAnswers.{fresh_next}
+use Rattle.decide_repair.proofs.Searching.{licence_accepted}
 use Rattle.decide_repair.proofs.search.left_by.Goals as goal
 
 pub give_up-requires-clause-fresh : goal.give_up-requires-clause-fresh

@@ -1,6 +1,7 @@
 -- The log refutes the query of the next place, and names its variables alone.
+use Rattle.decide_cnf.proofs.NextAnswers.{refutes_next}
 use Rattle.decide_nodes.specs.Nodes.{nothing, root_bit}
-use Rattle.decide_repair.proofs.Searching.{refuted_accepted, refutes_next}
+use Rattle.decide_repair.proofs.Searching.{refuted_accepted}
 use Rattle.decide_repair.proofs.search.refuted_by.Goals as goal
 
 pub conclude-requires-clause-refutes : goal.conclude-requires-clause-refutes

@@ -31,9 +31,9 @@ returns-clause-events c =
 pub returns-in_err-statements-clause-own : goal.returns-in_err-statements-clause-own
 returns-in_err-statements-clause-own c =
     let said = code_in c.args.bytes.now c.args.circuit.now c.args.scope.now in
-    own_is_read said c.from_residual.result c.args.circuit.now.fits c.requires c.read_times.ensures (is_read said c.from_residual.result (search rules))
+    own_is_read said c.from_residual.result c.args.circuit.now.fits c.requires (is_read said c.from_residual.result (search rules))
 
 pub returns-clause-own : goal.returns-clause-own
 returns-clause-own c =
     let said = code_in c.args.bytes.now c.args.circuit.now c.args.scope.now in
-    own_is_read said (Ok c.in_ok-changes_of.field-0) c.args.circuit.now.fits c.requires c.read_times.ensures (is_read said (Ok c.in_ok-changes_of.field-0) (search rules))
+    own_is_read said (Ok c.in_ok-changes_of.field-0) c.args.circuit.now.fits c.requires (is_read said (Ok c.in_ok-changes_of.field-0) (search rules))

@@ -36,9 +36,3 @@ returns-then-is_line g c =
     let line : is_line (class_of j certain place) ≡ true =
     (c.requires.facts place (omega arith)).line (sym c.is_line.ensures ∙ c.if-is_line.true) in
     sym (line_is (class_of j certain place) line)
-
-pub class_at-requires-clause-facts : goal.class_at-requires-clause-facts
-class_at-requires-clause-facts g c = λ k less. c.requires.facts k (omega (arith, less))
-
-pub class_at-requires-clause-agrees : goal.class_at-requires-clause-agrees
-class_at-requires-clause-agrees g c = λ k less. c.requires.agrees k (omega (arith, less))

@@ -9,9 +9,11 @@ use Rattle.wave_class.proofs.every.passes_at.Goals as goal
 
 pub bit-requires : goal.bit-requires
 bit-requires g c =
-    let j = job_in c.args.circuit.now in
-    let certain = g.C.Source.reads c.args.certain.now in
-    let place = c.args.place in
-    let contains = subst (ReadsOnly j certain place) c.in-Copies.is c.requires.reads in
-    c.requires.certain c.in-Copies.from (all_at (λ k. k < place) (arguments j certain place) c.in-Copies.from
-    (arguments_below j c.args.circuit.now.fits.fits_job certain place c.requires.within) contains)
+    let asked = c.args.uncertain.now.asked.now in
+    let j = job_in asked.circuit.now in
+    let fits = asked.circuit.now.fits.fits_job in
+    let has = g.met.E.Earlier.has_all asked.earlier.now asked.place asked.known in
+    let certain = g.E.Source.reads asked.earlier.now in
+    let contains = subst (ReadsOnly j certain asked.place) c.in-Copies.is c.requires.reads in
+    has c.in-Copies.from (all_at (λ k. k < asked.place) (arguments j certain asked.place) c.in-Copies.from
+    (arguments_below j fits certain asked.place asked.within) contains)

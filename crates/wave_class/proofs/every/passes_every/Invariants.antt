@@ -7,6 +7,9 @@ use Rattle.wave_class.specs.Test.{test_of}
 use Rattle.wave_class.proofs.every.passes_every.Given as goal
 
 abbrev pub invariant-numbers : goal.invariant-numbers
-invariant-numbers g l = (m : ℕ) → m < l.number
-    → test_of (job_in l.circuit) (g.C.Source.reads l.certain) l.place l.test
-    (assigned (g.C.Source.reads l.certain) (masked l.uncertain m)) ≡ true
+invariant-numbers g l =
+    let asked = l.uncertain.asked.now in
+    let certain = g.E.Source.reads asked.earlier.now in
+    (m : ℕ) → m < l.number
+    → test_of (job_in asked.circuit.now) certain asked.place l.test
+    (assigned certain (masked l.uncertain.places.now m)) ≡ true

@@ -4,5 +4,9 @@ use Rattle.design_circuit.proofs.Reaching.{step_room}
 use Rattle.wave_class.proofs.keeps.driver_passes.Goals as goal
 
 pub net_keeps-requires-clause-small : goal.net_keeps-requires-clause-small
-net_keeps-requires-clause-small g c = step_room (job_in c.args.circuit.now) c.args.circuit.now.fits.fits_job c.args.place
+net_keeps-requires-clause-small g c =
+    let asked = c.args.uncertain.now.asked.now in
+    let j = job_in asked.circuit.now in
+    let fits = asked.circuit.now.fits.fits_job in
+    step_room j fits asked.place
     c.args.spot c.requires.spot

@@ -8,6 +8,9 @@ use Rattle.wave_class.proofs.keeps.register_passes.Goals as goal
 
 pub pins_keep-requires-clause-nets : goal.pins_keep-requires-clause-nets
 pins_keep-requires-clause-nets g c =
+    let asked = c.args.asked.now in
+    let j = job_in asked.circuit.now in
+    let fits = asked.circuit.now.fits.fits_job in
     let later : 0 < c.args.spot.step = grind (arith, common_steps) in
-    rw c.as_slice.ensures (nets_back (job_in c.args.circuit.now) c.args.circuit.now.fits.fits_job c.args.place c.args.spot
+    rw c.as_slice.ensures (nets_back j fits asked.place c.args.spot
     (net_pins c.args.latching.now.pins) c.requires.spot later c.requires.register.nets)

@@ -13,50 +13,52 @@ use Rattle.wave_class.proofs.steady.register_class.Goals as goal
 
 pub returns-then-is_plain : goal.returns-then-is_plain
 returns-then-is_plain g c =
-    let j = job_in c.args.circuit.now in
-    let certain = g.E.Source.reads c.args.earlier.now in
-    let place = c.args.place in
-    let same : PlaceSeesTheSame j certain place =
-    subst (λ b. OnTrue b (PlaceSeesTheSame j certain place)) c.if-not-sees_the_same.false
+    let asked = c.args.asked.now in
+    let j = job_in asked.circuit.now in
+    let fits = asked.circuit.now.fits.fits_job in
+    let certain = g.E.Source.reads asked.earlier.now in
+    let same : PlaceSeesTheSame j certain asked.place =
+    subst (λ b. OnTrue b (PlaceSeesTheSame j certain asked.place)) c.if-not-sees_the_same.false
     c.sees_the_same.ensures.same in
-    let more : j.width ≤ place =
-    subst (λ b. OnTrue b (j.width ≤ place)) c.if-not-sees_the_same.false c.sees_the_same.ensures.later in
-    let back : place - c.width_of.result ≡ before j place = ap (λ w. place - w) c.width_of.ensures
-    ∙ before_later j c.args.circuit.now.fits.fits_job place c.requires.within more in
-    let all = c.requires.within in
-    let seen = register_seen j c.args.circuit.now.fits.fits_job certain place c.args.pins.now c.requires.within
+    let more : j.width ≤ asked.place =
+    subst (λ b. OnTrue b (j.width ≤ asked.place)) c.if-not-sees_the_same.false c.sees_the_same.ensures.later in
+    let back : asked.place - c.width_of.result ≡ before j asked.place = ap (λ w. asked.place - w) c.width_of.ensures
+    ∙ before_later j fits asked.place asked.within more in
+    let all = asked.within in
+    let seen = register_seen j fits certain asked.place c.args.pins.now asked.within
     c.requires.stands
-    c.requires.agrees same in
+    asked.agrees same in
     let less = seen.less in
-    let plain : is_plain (class_of j certain (before j place)) ≡ true =
-    (c.requires.facts (before j place) less).plain (sym (c.is_plain.ensures
-    ∙ ap (λ k. (g.E.Earlier.facts c.args.earlier.now k).plain) back) ∙ c.if-is_plain.true) in
+    let plain : is_plain (class_of j certain (before j asked.place)) ≡ true =
+    (asked.facts (before j asked.place) less).plain (sym (c.is_plain.ensures
+    ∙ ap (λ k. (g.E.Earlier.facts asked.earlier.now k).plain) back) ∙ c.if-is_plain.true) in
     c.plain_class.ensures ∙ ap plain_class (c.value.ensures ∙ ap certain back)
-    ∙ steady_plain j c.args.circuit.now.fits.fits_job certain place (before j place) (omega (arith, less, all)) seen.kinds
-    (c.requires.agrees (before j place) less) plain
+    ∙ steady_plain j fits certain asked.place (before j asked.place) (omega (arith, less, all)) seen.kinds
+    (asked.agrees (before j asked.place) less) plain
 
 pub returns-then-is_open : goal.returns-then-is_open
 returns-then-is_open g c =
-    let j = job_in c.args.circuit.now in
-    let certain = g.E.Source.reads c.args.earlier.now in
-    let place = c.args.place in
-    let same : PlaceSeesTheSame j certain place =
-    subst (λ b. OnTrue b (PlaceSeesTheSame j certain place)) c.if-not-sees_the_same.false
+    let asked = c.args.asked.now in
+    let j = job_in asked.circuit.now in
+    let fits = asked.circuit.now.fits.fits_job in
+    let certain = g.E.Source.reads asked.earlier.now in
+    let same : PlaceSeesTheSame j certain asked.place =
+    subst (λ b. OnTrue b (PlaceSeesTheSame j certain asked.place)) c.if-not-sees_the_same.false
     c.sees_the_same.ensures.same in
-    let more : j.width ≤ place =
-    subst (λ b. OnTrue b (j.width ≤ place)) c.if-not-sees_the_same.false c.sees_the_same.ensures.later in
-    let back : place - c.width_of.result ≡ before j place = ap (λ w. place - w) c.width_of.ensures
-    ∙ before_later j c.args.circuit.now.fits.fits_job place c.requires.within more in
-    let all = c.requires.within in
-    let seen = register_seen j c.args.circuit.now.fits.fits_job certain place c.args.pins.now c.requires.within
+    let more : j.width ≤ asked.place =
+    subst (λ b. OnTrue b (j.width ≤ asked.place)) c.if-not-sees_the_same.false c.sees_the_same.ensures.later in
+    let back : asked.place - c.width_of.result ≡ before j asked.place = ap (λ w. asked.place - w) c.width_of.ensures
+    ∙ before_later j fits asked.place asked.within more in
+    let all = asked.within in
+    let seen = register_seen j fits certain asked.place c.args.pins.now asked.within
     c.requires.stands
-    c.requires.agrees same in
+    asked.agrees same in
     let less = seen.less in
-    let open_is : is_plain (class_of j certain (before j place)) ≡ false =
-    open_told j certain (before j place) (g.E.Earlier.facts c.args.earlier.now (before j place))
-    (c.requires.facts (before j place) less) (sym (c.is_open.ensures
-    ∙ ap (λ k. is_open (g.E.Earlier.facts c.args.earlier.now k)) back) ∙ c.if-is_open.true) in
+    let open_is : is_plain (class_of j certain (before j asked.place)) ≡ false =
+    open_told j certain (before j asked.place) (g.E.Earlier.facts asked.earlier.now (before j asked.place))
+    (asked.facts (before j asked.place) less) (sym (c.is_open.ensures
+    ∙ ap (λ k. is_open (g.E.Earlier.facts asked.earlier.now k)) back) ∙ c.if-is_open.true) in
     ap (λ k. Carried k false) back
-    ∙ steady_open j c.args.circuit.now.fits.fits_job certain place (before j place) (omega (arith, less, all)) seen.kinds
+    ∙ steady_open j fits certain asked.place (before j asked.place) (omega (arith, less, all)) seen.kinds
     open_is
     (seen.passes open_is)

@@ -7,6 +7,8 @@ use Rattle.wave_class.proofs.tried.copied_or_line.Given as goal
 
 abbrev pub invariant-rest : goal.invariant-rest
 invariant-rest g l =
-    copied_or_line (job_in l.circuit) (g.C.Source.reads l.certain) l.place l.inverted
-    (arguments (job_in l.circuit) (g.C.Source.reads l.certain) l.place)
-    ≡ copied_or_line (job_in l.circuit) (g.C.Source.reads l.certain) l.place l.inverted (drop l.from-index l.from-items)
+    let asked = l.uncertain.asked.now in
+    let j = job_in asked.circuit.now in
+    let certain = g.E.Source.reads asked.earlier.now in
+    copied_or_line j certain asked.place l.inverted (arguments j certain asked.place)
+    ≡ copied_or_line j certain asked.place l.inverted (drop l.from-index l.from-items)

@@ -8,8 +8,10 @@ use Rattle.wave_class.proofs.tried.is_carrier.Goals as goal
 
 pub value-requires : goal.value-requires
 value-requires g c =
-    let j = job_in c.args.circuit.now in
-    let certain = g.C.Source.reads c.args.certain.now in
-    let place = c.args.place in
-    c.requires.certain c.args.from (all_at (λ k. k < place) (arguments j certain place) c.args.from
-    (arguments_below j c.args.circuit.now.fits.fits_job certain place c.requires.within) c.requires.from)
+    let asked = c.args.uncertain.now.asked.now in
+    let j = job_in asked.circuit.now in
+    let fits = asked.circuit.now.fits.fits_job in
+    let has = g.met.E.Earlier.has_all asked.earlier.now asked.place asked.known in
+    let certain = g.E.Source.reads asked.earlier.now in
+    has c.args.from (all_at (λ k. k < asked.place) (arguments j certain asked.place) c.args.from
+    (arguments_below j fits certain asked.place asked.within) c.requires.from)

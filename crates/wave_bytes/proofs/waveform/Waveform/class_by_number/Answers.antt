@@ -18,15 +18,15 @@ kept_class-requires-clause-agrees c =
     let long = length-map c.self.inside.rows.bytes written_of_byte in
     λ k less. c.self.invariant.kept.agrees k (omega (arith, test, count, long, less))
 
-pub class_at-requires-clause-facts : goal.class_at-requires-clause-facts
-class_at-requires-clause-facts c =
+pub invariant_of-asked-clause-facts : goal.invariant_of-asked-clause-facts
+invariant_of-asked-clause-facts c =
     let long = length-map c.self.inside.rows.bytes written_of_byte in
     let reached : c.args.number ≤ length (map written_of_byte c.self.inside.rows.bytes) =
     subst (λ (v : WaveformView). c.args.number ≤ length v.written) (sym c.self.view_is) c.requires.reached in
     λ k less. c.self.invariant.kept.told k (omega (arith, long, reached, less))
 
-pub class_at-requires-clause-agrees : goal.class_at-requires-clause-agrees
-class_at-requires-clause-agrees c =
+pub invariant_of-asked-clause-agrees : goal.invariant_of-asked-clause-agrees
+invariant_of-asked-clause-agrees c =
     let reached : c.args.number ≤ length (map written_of_byte c.self.inside.rows.bytes) =
     subst (λ (v : WaveformView). c.args.number ≤ length v.written) (sym c.self.view_is) c.requires.reached in
     λ k less. c.self.invariant.kept.agrees k (omega (arith, reached, less))

@@ -1,6 +1,0 @@
--- The first clauses are copied.
-use Rattle.std.proofs.Common.{◌≡◌, take}
-use Rattle.cert_condition.proofs.copy.copies_of.Given as goal
-
-abbrev pub invariant-clauses : goal.invariant-clauses
-invariant-clauses l = l.copies.items ≡ take l.clause-index l.clauses
