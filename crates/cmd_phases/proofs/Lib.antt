@@ -1,4 +1,5 @@
 -- Lemmas on the phases of commands, and those on objections that commands cite.
+pub mod Agreeing
 pub mod CheckedPlaces
 pub mod CutTexts
 pub mod FoundPlaces

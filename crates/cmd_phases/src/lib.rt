@@ -1,15 +1,13 @@
 //! What the commands share: texts read and judged, the comparison, the walk with its progress, and causes with their
 //! lines. Each call comes to what the phases of `specs/Phases.antt` come to.
 //!
-//! A job goes by these files: `job.rt` and `judged.rt` (files to a design and a recording of it, in `parts.rt`),
-//! `agreed.rt` (the comparison, and then a command's own part), `walked.rt` (the walk over all places), `sets.rt`
-//! (starts that are set), `forced.rt` (the forces of a code), `certified.rt` (a certificate, and its check), `forms.rt`
-//! (the forms of a certificate, and the conditions that it goes with), `objection.rt` (a place that is found
-//! otherwise),
-//! `cause.rt` and `line.rt` (what texts are refused for, and its line). Start at `job_of`.
+//! A job goes by these files: `job.rt` and `judged.rt` (files to a design and a recording of it, in `parts.rt`, and the
+//! comparison), `walked.rt` (the walk over all places), `sets.rt` (starts that are set), `forced.rt` (the forces of a
+//! code), `certified.rt` (a certificate, and its check), `forms.rt` (the forms of a certificate, and the conditions that
+//! it goes with), `objection.rt` (a place that is found otherwise), `cause.rt` and `line.rt` (what texts are refused for,
+//! and its line). Start at `job_of`.
 #![tactic(auto)]
 
-mod agreed;
 mod cause;
 mod certified;
 mod forced;
@@ -23,7 +21,6 @@ mod pieces;
 mod sets;
 mod walked;
 
-pub use agreed::{AfterAgreed, prepare_agreed};
 pub use cause::{Lack, Objection, Refused, Uncertified};
 pub use cert_check::{Cert, Form, write_cert};
 pub use certified::{certificate_of, certified_wave};

@@ -8,7 +8,7 @@ use crate::limits::limits_of;
 use base_line::{Line, Opt};
 use base_run::{Ready, Refusal};
 use base_shelf::{Shelf, Sink};
-use cmd_phases::{AfterAgreed, Agreed, RECORDING_BYTES, Refused, prepare_agreed};
+use cmd_phases::{RECORDING_BYTES, Refused, agreed_of};
 use cmd_set::{Form, Inputs, Run};
 use cmd_words::{CONFLICTS, ENUMERATE, JobWords, job_of, job_options};
 use law_model::Limits;
@@ -23,29 +23,6 @@ pub struct Blame<'a> {
     /// How places are decided.
     pub limits: Limits,
     ghost limits_fit: { AreLimits limits } by { AreLimits-prop limits },
-}
-
-impl<'a> AfterAgreed for Blame<'a> {
-    ghost use Rattle.cmd_words.specs.Words.{job_values};
-    ghost use Rattle.cmd_program.specs.Blame.{blame_values, walk_blamed};
-
-    ghost job = { λ command. job_values command.job };
-
-    ghost after = { λ command. walk_blamed (blame_values command) };
-
-    fn words(&self) -> &JobWords<'_> {
-        &self.job
-    }
-
-    fn go_on<S: Shelf, O: Sink>(
-        &self,
-        alloc: Global,
-        _shelf: &mut S,
-        agreed: &Agreed,
-        out: &mut O,
-    ) -> Result<Ready<'_>, Refusal<Refused>> {
-        blamed(alloc, self, &agreed.job, &agreed.history, out)
-    }
 }
 
 impl<'a> Run<'a> for Blame<'a> {
@@ -86,6 +63,7 @@ impl<'a> Run<'a> for Blame<'a> {
         shelf: &mut S,
         out: &mut O,
     ) -> Result<Ready<'_>, Refusal<Refused>> {
-        prepare_agreed(self, alloc, shelf, out)
+        let agreed = agreed_of(alloc, shelf, &self.job)?;
+        blamed(alloc, self, &agreed.job, &agreed.history, out)
     }
 }

@@ -9,7 +9,7 @@ use crate::lines::lines_of;
 use base_line::{Kind, Line, Opt};
 use base_run::{Ready, Refusal};
 use base_shelf::{Shelf, Sink};
-use cmd_phases::{AfterAgreed, Agreed, Refused, TEXT_BYTES, prepare_agreed};
+use cmd_phases::{Refused, TEXT_BYTES, agreed_of};
 use cmd_set::{Form, Inputs, Run};
 use cmd_words::{CONFLICTS, ENUMERATE, JobWords, REPORT, job_of, job_options, needs};
 use law_model::Limits;
@@ -34,29 +34,6 @@ pub struct Check<'a> {
     /// The lines of bits in the report.
     pub lines: ReportLines,
     ghost limits_fit: { AreLimits limits } by { AreLimits-prop limits },
-}
-
-impl<'a> AfterAgreed for Check<'a> {
-    ghost use Rattle.cmd_words.specs.Words.{job_values};
-    ghost use Rattle.cmd_program.specs.Check.{certified_phases, check_values};
-
-    ghost job = { λ command. job_values command.job };
-
-    ghost after = { λ command. certified_phases (check_values command) };
-
-    fn words(&self) -> &JobWords<'_> {
-        &self.job
-    }
-
-    fn go_on<S: Shelf, O: Sink>(
-        &self,
-        alloc: Global,
-        shelf: &mut S,
-        agreed: &Agreed,
-        _out: &mut O,
-    ) -> Result<Ready<'_>, Refusal<Refused>> {
-        check_agreed(alloc, shelf, self, &agreed.job, &agreed.history)
-    }
 }
 
 impl<'a> Run<'a> for Check<'a> {
@@ -98,8 +75,9 @@ impl<'a> Run<'a> for Check<'a> {
         &self,
         alloc: Global,
         shelf: &mut S,
-        out: &mut O,
+        _out: &mut O,
     ) -> Result<Ready<'_>, Refusal<Refused>> {
-        prepare_agreed(self, alloc, shelf, out)
+        let agreed = agreed_of(alloc, shelf, &self.job)?;
+        check_agreed(alloc, shelf, self, &agreed.job, &agreed.history)
     }
 }

@@ -11,7 +11,7 @@ use crate::repaired::repaired;
 use base_line::{Kind, Line, Opt, are_apart};
 use base_run::{Ready, Refusal};
 use base_shelf::{Shelf, Sink};
-use cmd_phases::{AfterAgreed, Agreed, RECORDING_BYTES, Refused, prepare_agreed};
+use cmd_phases::{RECORDING_BYTES, Refused, agreed_of};
 use cmd_set::{Form, Inputs, Run};
 use cmd_words::{
     CONFLICTS, ENUMERATE, Form as CertForm, JobWords, REPORT, form_of, job_of, job_options, needs,
@@ -51,29 +51,6 @@ pub struct Repair<'a> {
     ghost code_apart: { code.now ≢ vcd.now },
     ghost cert_apart: { cert.now ≢ vcd.now },
     ghost cert_too: { cert.now ≢ code.now },
-}
-
-impl<'a> AfterAgreed for Repair<'a> {
-    ghost use Rattle.cmd_words.specs.Words.{job_values};
-    ghost use Rattle.cmd_program.specs.Repair.{repair_values, walk_phases};
-
-    ghost job = { λ command. job_values command.job };
-
-    ghost after = { λ command. walk_phases (repair_values command) };
-
-    fn words(&self) -> &JobWords<'_> {
-        &self.job
-    }
-
-    fn go_on<S: Shelf, O: Sink>(
-        &self,
-        alloc: Global,
-        _shelf: &mut S,
-        agreed: &Agreed,
-        out: &mut O,
-    ) -> Result<Ready<'_>, Refusal<Refused>> {
-        repaired(alloc, self, &agreed.job, &agreed.history, out)
-    }
 }
 
 impl<'a> Run<'a> for Repair<'a> {
@@ -131,7 +108,8 @@ impl<'a> Run<'a> for Repair<'a> {
         shelf: &mut S,
         out: &mut O,
     ) -> Result<Ready<'_>, Refusal<Refused>> {
-        prepare_agreed(self, alloc, shelf, out)
+        let agreed = agreed_of(alloc, shelf, &self.job)?;
+        repaired(alloc, self, &agreed.job, &agreed.history, out)
     }
 }
 

@@ -11,7 +11,7 @@ use crate::upgraded::upgrade_agreed;
 use base_line::{Kind, Line, Opt, are_apart};
 use base_run::{Ready, Refusal};
 use base_shelf::{Shelf, Sink};
-use cmd_phases::{AfterAgreed, Agreed, Refused, TEXT_BYTES, prepare_agreed};
+use cmd_phases::{Refused, TEXT_BYTES, agreed_of};
 use cmd_set::{Form, Inputs, Run};
 use cmd_words::{CONFLICTS, ENUMERATE, JobWords, REPORT, job_of, job_options, needs};
 use law_model::Limits;
@@ -39,29 +39,6 @@ pub struct Upgrade<'a> {
     /// The lines of bits in the report.
     pub lines: ReportLines,
     ghost limits_fit: { AreLimits limits } by { AreLimits-prop limits },
-}
-
-impl<'a> AfterAgreed for Upgrade<'a> {
-    ghost use Rattle.cmd_words.specs.Words.{job_values};
-    ghost use Rattle.cmd_program.specs.Upgrade.{certified_upgrade, upgrade_values};
-
-    ghost job = { λ command. job_values command.job };
-
-    ghost after = { λ command. certified_upgrade (upgrade_values command) };
-
-    fn words(&self) -> &JobWords<'_> {
-        &self.job
-    }
-
-    fn go_on<S: Shelf, O: Sink>(
-        &self,
-        alloc: Global,
-        shelf: &mut S,
-        agreed: &Agreed,
-        _out: &mut O,
-    ) -> Result<Ready<'_>, Refusal<Refused>> {
-        upgrade_agreed(alloc, shelf, self, &agreed.job, &agreed.history)
-    }
 }
 
 impl<'a> Run<'a> for Upgrade<'a> {
@@ -105,9 +82,10 @@ impl<'a> Run<'a> for Upgrade<'a> {
         &self,
         alloc: Global,
         shelf: &mut S,
-        out: &mut O,
+        _out: &mut O,
     ) -> Result<Ready<'_>, Refusal<Refused>> {
-        prepare_agreed(self, alloc, shelf, out)
+        let agreed = agreed_of(alloc, shelf, &self.job)?;
+        upgrade_agreed(alloc, shelf, self, &agreed.job, &agreed.history)
     }
 }
 
