@@ -79,12 +79,7 @@ impl Decider {
     }
 
     /// A log of a formula, if it refutes the clauses that it should need, which are then kept with it.
-    fn checked(
-        &mut self,
-        alloc: Global,
-        formula: &Cnf,
-        log: Log,
-    ) -> Result<Option<Outcome>, Memory>
+    fn checked(&mut self, alloc: Global, formula: &Cnf, log: Log) -> Result<Option<Outcome>, Memory>
         ensures { IfOk result (λ found. IfSome found (IsDecided formula.now)) }
     {
         if !fits(&log, formula.vars) {
