@@ -1,6 +1,6 @@
 //! The unknown bits, each with a source and a filling to blame.
 
-ghost use Rattle.std.specs.Prelude.{◌≡◌, ◌+◌, ◌-◌, ◌*◌, ◌<◌, false, IfOk, OnOk, length};
+ghost use Rattle.std.specs.Prelude.{◌≡◌, false, IfOk, OnOk};
 ghost use Rattle.design_circuit.specs.Job.{number_of};
 ghost use Rattle.recording_binding.specs.Binding.{FitsBinding};
 ghost use Rattle.wave_proved.specs.Contents.{IsFinished, job};
@@ -11,9 +11,9 @@ ghost use Rattle.report_blame.specs.Causes.{AreCauses};
 
 use crate::causes::Causes;
 use base_lists::Memory;
-use design_circuit::{Filling, HistoryRow, Mark, Place, Stim};
+use design_circuit::{Filling, HistoryRow, Mark, Place};
 use recording_binding::{Binding, BoundBit, BoundBits};
-use report_bits::bring;
+use report_bits::{bit_place, bring};
 use std::alloc::Global;
 use wave_proved::Wave;
 
@@ -92,17 +92,5 @@ fn add_bit(
         }
         Mark::Certain => Ok(()),
         Mark::Undecided => Ok(()),
-    }
-}
-
-/// The place of a bound bit at the last round of its moment.
-fn bit_place(stim: &Stim, bit: BoundBit) -> Place
-    requires { bit.moment < length stim.now.times }
-    ensures step { result.step ≡ bit.moment * stim.now.rounds + stim.now.rounds - 1 }
-    ensures net { result.net ≡ bit.net }
-{
-    Place {
-        step: bit.moment * stim.rounds + (stim.rounds - 1),
-        net: bit.net,
     }
 }

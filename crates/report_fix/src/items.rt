@@ -1,6 +1,6 @@
 //! The bound bits that become known, and those that don't stay known.
 
-ghost use Rattle.std.specs.Prelude.{◌≡◌, ◌+◌, ◌-◌, ◌*◌, ◌<◌, [], ◌∷◌, ◌++◌, IfOk, OnOk, length, map};
+ghost use Rattle.std.specs.Prelude.{◌≡◌, [], ◌∷◌, ◌++◌, IfOk, OnOk, map};
 ghost use Rattle.std.specs.List.{filter};
 ghost use Rattle.design_cell.specs.Value.{is_one};
 ghost use Rattle.recording_binding.specs.Binding.{FitsBinding};
@@ -9,8 +9,9 @@ ghost use Rattle.report_fix.specs.Gained as spec;
 
 use base_lists::Memory;
 use design_cell::Value;
-use design_circuit::{Mark, Place, Stim, Written};
+use design_circuit::{Mark, Place, Written};
 use recording_binding::{Binding, BoundBit, BoundBits};
+use report_bits::bit_place;
 use std::alloc::Global;
 use wave_proved::Wave;
 
@@ -108,18 +109,6 @@ fn item_in(wave: &Wave<'_>, bit: BoundBit) -> Item
         bit: bit.bit,
         place,
         value: is_one(wave.value(place)),
-    }
-}
-
-/// The place of a bound bit at the last round of its moment.
-fn bit_place(stim: &Stim, bit: BoundBit) -> Place
-    requires { bit.moment < length stim.now.times }
-    ensures step { result.step ≡ bit.moment * stim.now.rounds + stim.now.rounds - 1 }
-    ensures net { result.net ≡ bit.net }
-{
-    Place {
-        step: bit.moment * stim.rounds + (stim.rounds - 1),
-        net: bit.net,
     }
 }
 
