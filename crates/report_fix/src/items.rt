@@ -5,6 +5,7 @@ ghost use Rattle.std.specs.List.{filter};
 ghost use Rattle.design_cell.specs.Value.{is_one};
 ghost use Rattle.recording_binding.specs.Binding.{FitsBinding};
 ghost use Rattle.recording_binding.specs.BoundBits.{IsBitOf};
+ghost use Rattle.report_bits.specs.BoundPlaces.{HasBit};
 ghost use Rattle.report_fix.specs.Gained as spec;
 
 use base_lists::Memory;
@@ -71,8 +72,8 @@ fn add_bit(
     after: &Wave<'_>,
     bit: BoundBit,
 ) -> Result<(), Memory>
-    requires first { spec.HasBit before.now bit }
-    requires second { spec.HasBit after.now bit }
+    requires first { HasBit before.now bit }
+    requires second { HasBit after.now bit }
     ensures gained { OnOk result (fixed.new.gained.items ≡ fixed.old.gained.items
         ++ map (spec.item_in after.now) (filter (spec.is_gained before.now after.now) (bit ∷ []))) }
     ensures lost { OnOk result (fixed.new.lost.items ≡ fixed.old.lost.items
@@ -91,7 +92,7 @@ fn add_bit(
 
 /// What a wave has at a bound bit's place.
 fn bit_written(wave: &Wave<'_>, bit: BoundBit) -> Written
-    requires { spec.HasBit wave.now bit }
+    requires { HasBit wave.now bit }
     ensures { result ≡ spec.bit_written wave.now bit }
 {
     let place = bit_place(wave.stim(), bit);
@@ -100,7 +101,7 @@ fn bit_written(wave: &Wave<'_>, bit: BoundBit) -> Written
 
 /// A bit with its value in a wave.
 fn item_in(wave: &Wave<'_>, bit: BoundBit) -> Item
-    requires { spec.HasBit wave.now bit }
+    requires { HasBit wave.now bit }
     ensures { result ≡ spec.item_in wave.now bit }
 {
     let place = bit_place(wave.stim(), bit);
