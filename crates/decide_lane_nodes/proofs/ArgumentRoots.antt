@@ -1,18 +1,11 @@
 -- The roots of what a place rests on, by their nodes, from the literals of the places before it.
-use Rattle.std.proofs.Common.{◌≡◌, ℕ, zero, suc, ◌-◌, ◌<◌, ◌^◌, true, List, [], ◌∷◌, length, map, slice_index, slice_index_or, refl, sym, ap, ◌∙◌, subst, arith}
+use Rattle.std.proofs.Common.{◌≡◌, ℕ, zero, suc, ◌-◌, ◌<◌, ◌^◌, List, [], ◌∷◌, length, map, slice_index, refl, sym, ap, ◌∙◌, subst, arith}
 use Rattle.std.specs.List.{AllByRecursion}
 use Rattle.std.proofs.lemmas.List.{get_or-map, length-map}
 use Rattle.design_cell.specs.declared.value.Value.{Value}
-use Rattle.design_cell.specs.declared.value.Value.TheVariants.{X}
-use Rattle.design_cell.specs.Value.{is_unknown}
-use Rattle.design_circuit.specs.Rule.{rule}
 use Rattle.design_circuit.specs.Waveform.{certain}
-use Rattle.law_model.specs.Assignment.{assigned}
-use Rattle.law_model.specs.Cone.{essentials}
-use Rattle.law_model.specs.Mask.{masked}
-use Rattle.law_model.specs.Places.{among}
 use Rattle.law_model.specs.Root.{root_of}
-use Rattle.law_model.proofs.PlacesWhere.{all_among, among_all}
+use Rattle.law_model.proofs.PlacesWhere.{among_all}
 use Rattle.law_model.proofs.TracedCones.{values_are}
 use Rattle.wave_proved.specs.Contents.{Contents, IsWave, job}
 use Rattle.decide_nodes.proofs.NodeWorlds.{all_at}
@@ -24,8 +17,7 @@ use Rattle.decide_lane_nodes.specs.Literal.{LiteralView}
 use Rattle.decide_lane_nodes.specs.Made.{AreRootsIn}
 use Rattle.decide_lane_nodes.specs.Nodes.{NodeView, node_at, numbers_of, place_of_node, zero_node}
 use Rattle.decide_lane_nodes.specs.declared.literal.Covered.{Covered}
-use Rattle.decide_lane_nodes.proofs.LiteralBits.{covered_arguments}
-use Rattle.decide_lane_nodes.proofs.NearPlaces.{essential_argument}
+use Rattle.decide_lane_nodes.proofs.LiteralBits.{covered_arguments, covered_at, essential_table}
 
 -- The numbers of the nodes after the first.
 pub numbers_long : (nodes : List NodeView) → length (numbers_of nodes) ≡ length nodes - 1
@@ -41,16 +33,6 @@ number_at (n ∷ ns) (suc m) some less =
     ap (slice_index (map place_of_node ns)) same ∙ get_or-map place_of_node ns m zero_node 0 (omega (arith, less)))
 
 -- The arguments of a place have nodes of their own, which are those of their roots.
-covered_at : (c : Contents) (covered : Covered) (place k : ℕ) (arguments : List ℕ) (values : List Value) → IsWave c
-    → IsInReach c place → IsRuleIn c place arguments values → CoversBeforeIn c covered place → among arguments k ≡ true
-    → IsCovered covered k × (is_unknown (certain c.written k) ≡ true)
-covered_at c covered place k arguments values wave reach rests before at =
-    let essential : among (essentials (job c) (certain c.written) place) k ≡ true =
-    subst (λ xs. among xs k ≡ true) rests.are_essential at in (
-      all_among (IsCovered covered) arguments k (covered_arguments c covered place arguments values wave reach rests before) at,
-      (essential_argument (job c) (certain c.written) place k essential).1,
-    )
-
 pub own_arguments : (c : Contents) (covered : Covered) (place : ℕ) (arguments : List ℕ) (values : List Value) → IsWave c
     → IsInReach c place → IsRuleIn c place arguments values → CoversBeforeIn c covered place
     → AllByRecursion (HasOwnNode covered) arguments
@@ -105,18 +87,12 @@ rooted_at c covered place arguments values roots wave reach rests before after i
           (argument_roots c covered place arguments values wave reach rests before) near
           ∙ ap (λ (r : NodeRoot). record { place = slice_index (numbers_of covered.nodes.now) r.node; inverted = r.inverted }) (sym here));
       values_long = rests.is_table.long ∙ ap (λ n. 2 ^ n) (sym long);
-      are_values = λ bits. values_are (job c) wave.fits.fits_job (certain c.written) place values reach.within table_is bits;
+      are_values = λ bits. values_are (job c) wave.fits.fits_job (certain c.written) place values reach.within
+          (essential_table c place arguments values rests).are_values bits;
     })
   where
     long : length (map (covered_root covered) arguments) ≡ length arguments
     long = length-map arguments (covered_root covered)
-
-    table_is : (number : ℕ) → number < 2 ^ length (essentials (job c) (certain c.written) place)
-        → slice_index_or values number X ≡ rule (job c) (certain c.written)
-        (assigned (certain c.written) (masked (essentials (job c) (certain c.written) place) number)) place
-    table_is = subst (λ xs. (number : ℕ) → number < 2 ^ length xs
-        → slice_index_or values number X ≡ rule (job c) (certain c.written) (assigned (certain c.written) (masked xs number)) place)
-        rests.are_essential rests.is_table.are_values
 
 pub are_roots : (c : Contents) (covered : Covered) (place : ℕ) (arguments : List ℕ) (values : List Value)
     (roots : List NodeRoot) → IsWave c → IsInReach c place → IsRuleIn c place arguments values

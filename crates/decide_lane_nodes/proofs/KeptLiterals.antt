@@ -13,16 +13,15 @@ use Rattle.design_circuit.proofs.Rules.{spot}
 use Rattle.law_model.specs.Class.{are_equal, before, class_of, is_carried_on}
 use Rattle.law_model.specs.declared.class.ClassByNumber.{ClassByNumber}
 use Rattle.law_model.specs.declared.class.ClassByNumber.TheVariants.{Carried, Free, Line, Local}
-use Rattle.law_model.proofs.CarryLaw.{carry}
 use Rattle.wave_class.proofs.StepBefore.{before_later, first_step}
 use Rattle.wave_proved.specs.Contents.{Contents, IsWave, job}
 use Rattle.wave_proved.specs.Kept.{keeps_there}
-use Rattle.law_waveforms.proofs.GivenWorlds.{given_certain, given_world}
-use Rattle.decide_lane_nodes.specs.Given.{lane_bit, lane_given}
+use Rattle.law_waveforms.proofs.GivenWorlds.{given_certain}
+use Rattle.decide_lane_nodes.specs.Given.{lane_given}
 use Rattle.decide_lane_nodes.specs.InWave.{IsLiteralIn}
 use Rattle.decide_lane_nodes.specs.Literal.{LiteralView}
 use Rattle.decide_lane_nodes.specs.Nodes.{NodeView}
-use Rattle.decide_lane_nodes.proofs.LiteralBits.{carried_literal, unknown_not}
+use Rattle.decide_lane_nodes.proofs.LiteralBits.{carried_literal, unknown_not, written_within}
 
 -- Values that are equal are one bit.
 record AreOneBit (x y : Value) : Type 0 where
@@ -63,7 +62,7 @@ kept_back j fits place within later =
     never : (step : ℕ) → step ≡ 0 → not (step == 0) ≡ true → ⊥
     never step is later = (let no : not (0 == 0) ≡ true = subst (λ n. not (n == 0) ≡ true) is later in cc)
 
--- Where both are certain with one bit, and where the place is carried on.
+-- Where both are certain with one bit.
 kept_certain : (c : Contents) (nodes : List NodeView) (literal : LiteralView) (place from : ℕ) → IsWave c
     → place < length c.written → from < length c.written
     → are_equal (certain c.written place) (certain c.written from) ≡ true → IsLiteralIn c nodes literal from
@@ -83,33 +82,6 @@ kept_certain c nodes literal place from wave less from_less same holds =
       sources = λ uncertain. unknown_not one.bit (sym (ap is_unknown one.first) ∙ uncertain);
     }
 
-kept_carried : (c : Contents) (nodes : List NodeView) (literal : LiteralView) (place from : ℕ) → IsWave c
-    → place < length c.written → class_of (job c) (certain c.written) place ≡ Carried from false
-    → IsLiteralIn c nodes literal from → IsLiteralIn c nodes literal place
-kept_carried c nodes literal place from wave less is holds = record {
-  within = holds.within;
-  bits = λ lane small.
-      holds.bits lane small
-      ∙ sym (carry j fits known (lane_given j lane) (lane_bit j known lane) place from false
-      (given_world j c.limits fits _ c.written c.lines wave.holds.sound place (omega (arith, less)) within
-      (lane_given j lane)) is);
-  some = λ uncertain. (carried_literal c nodes literal place from false wave less uncertain is holds).some uncertain;
-  root = λ uncertain. (carried_literal c nodes literal place from false wave less uncertain is holds).root uncertain;
-  sources = λ uncertain. (carried_literal c nodes literal place from false wave less uncertain is holds).sources uncertain;
-}
-  where
-    j : Job
-    j = job c
-
-    known : ℕ → Value
-    known = certain c.written
-
-    fits : Fits j
-    fits = wave.fits.fits_job
-
-    within : place < places_of j
-    within = (let all = wave.holds.sound.within in omega (arith, all, less))
-
 -- So it stands a width behind that place, whose literal is its own.
 pub record IsKeptFrom (c : Contents) (nodes : List NodeView) (place : ℕ) : Type 0 where
   pub back : (job c).width ≤ place
@@ -125,7 +97,7 @@ kept_literal c nodes place wave less keeps = record {
   literal = λ literal holds.
       (let there : IsLiteralIn c nodes literal (before j place) = subst (IsLiteralIn c nodes literal) before_is holds in
       ⊎_elim (λ same. kept_certain c nodes literal place (before j place) wave less earlier same there)
-      (λ on. kept_carried c nodes literal place (before j place) wave less (carried_is _ _ on) there)
+      (λ on. carried_literal c nodes literal place (before j place) false wave less (carried_is _ _ on) there)
       (or_cases _ _ here));
 }
   where
@@ -139,7 +111,7 @@ kept_literal c nodes place wave less keeps = record {
     fits = wave.fits.fits_job
 
     within : place < places_of j
-    within = (let all = wave.holds.sound.within in omega (arith, all, less))
+    within = written_within c place wave less
 
     low : place % j.width < j.width
     low = (spot j fits place within).position

@@ -7,6 +7,5 @@ pub mod LiteralSources
 pub mod NearPlaces
 pub mod NodeLists
 pub mod SpanLists
-pub mod TableLanes
 pub mod Unions
 pub mod WorkedLanes

@@ -1,5 +1,5 @@
 -- The sources of a place, from those of its arguments.
-use Rattle.std.proofs.Common.{◌≡◌, ℕ, ◌+◌, ◌^◌, ◌<◌, ◌==◌, ◌&&◌, ◌||◌, not, Bool, true, false, List, [], ◌∷◌, ◌++◌, Option, None, Some, IfSome, IsSome, length, if◌then◌else◌, refl, sym, ap, ◌∙◌, subst, arith, append-nil, ⊎_elim}
+use Rattle.std.proofs.Common.{◌≡◌, ℕ, ◌+◌, ◌<◌, ◌==◌, ◌&&◌, ◌||◌, not, Bool, true, false, List, [], ◌∷◌, ◌++◌, Option, None, Some, IfSome, IsSome, length, if◌then◌else◌, refl, sym, ap, ◌∙◌, subst, arith, append-nil, ⊎_elim}
 use Rattle.std.specs.List.{AllByRecursion, list_any}
 use Rattle.std.specs.List.Sorted.{IsStrictlyIncreasing}
 use Rattle.std.proofs.lemmas.Bool.{and_parts, cases_Bool}
@@ -10,7 +10,7 @@ use Rattle.design_circuit.specs.Fits.{Fits}
 use Rattle.design_circuit.specs.Job.{Job, places_of}
 use Rattle.design_circuit.specs.Waveform.{certain}
 use Rattle.law_model.specs.Class.{class_of, is_never_unknown}
-use Rattle.law_model.specs.Cone.{essentials, in_cone, reads_filling, is_carried, is_source, sources}
+use Rattle.law_model.specs.Cone.{in_cone, reads_filling, is_carried, is_source, sources}
 use Rattle.law_model.specs.Places.{among}
 use Rattle.law_model.proofs.Cones.{cone_within}
 use Rattle.law_model.proofs.PlacesWhere.{all_among, among_all, in_any, in_picked, picked_in, picked_rises}
@@ -18,17 +18,15 @@ use Rattle.law_model.proofs.TracedCones.{values_are}
 use Rattle.wave_proved.specs.Contents.{Contents, IsWave, job}
 use Rattle.law_waveforms.proofs.SourceUnions.{union_law}
 use Rattle.decide_nodes.proofs.NodeSources.{values_born}
-use Rattle.decide_graph.specs.Table.{IsTableOver}
 use Rattle.decide_nodes.proofs.RisingNumbers.{Rises, rises, rises_same}
 use Rattle.decide_lane_nodes.specs.InWave.{IsInReach, IsRuleIn, CoversBeforeIn}
 use Rattle.decide_lane_nodes.specs.Joined.{AreListed, IsJoined, HasSources, is_in, keeps_source}
 use Rattle.decide_lane_nodes.specs.Made.{AreSourcesIn}
-use Rattle.decide_lane_nodes.specs.Covered.{IsCovered, covered_sources}
+use Rattle.decide_lane_nodes.specs.Covered.{covered_sources}
 use Rattle.decide_lane_nodes.specs.Literal.{AreSources}
 use Rattle.decide_lane_nodes.specs.Union.{IsUnion}
 use Rattle.decide_lane_nodes.specs.declared.literal.Covered.{Covered}
-use Rattle.decide_lane_nodes.proofs.NearPlaces.{essential_argument}
-use Rattle.decide_lane_nodes.proofs.LiteralBits.{covered_arguments}
+use Rattle.decide_lane_nodes.proofs.LiteralBits.{argument_is, covered_at, essential_table}
 use Rattle.decide_lane_nodes.proofs.Unions.{rises_more}
 
 -- No places have no sources.
@@ -55,11 +53,8 @@ covered_sources_are : (c : Contents) (covered : Covered) (place k : ℕ) (argume
     → IsInReach c place → IsRuleIn c place arguments values → CoversBeforeIn c covered place → among arguments k ≡ true
     → AreSources (job c) (certain c.written) k (covered_sources covered k)
 covered_sources_are c covered place k arguments values wave reach rests before at =
-    let essential : among (essentials (job c) (certain c.written) place) k ≡ true =
-    subst (λ xs. among xs k ≡ true) rests.are_essential at in
-    let argument = essential_argument (job c) (certain c.written) place k essential in
-    let t = all_among (IsCovered covered) arguments k (covered_arguments c covered place arguments values wave reach rests before) at in
-    (before.each k t.first t.below).sources argument.1
+    let is = covered_at c covered place k arguments values wave reach rests before at in
+    (before.each k is.0.first is.0.below).sources is.1
 
 pub listed_arguments : (c : Contents) (covered : Covered) (place : ℕ) (arguments : List ℕ) (values : List Value) → IsWave c
     → IsInReach c place → IsRuleIn c place arguments values → CoversBeforeIn c covered place
@@ -132,12 +127,9 @@ rule_sources c covered place arguments all values wave reach rests before joined
     fits : Fits j
     fits = wave.fits.fits_job
 
-    argument_of : (k : ℕ) → among arguments k ≡ true → k < place
-    argument_of k at = (essential_argument j known place k (subst (λ xs. among xs k ≡ true) rests.are_essential at)).2
-
     each : (k : ℕ) → AllByRecursion (λ a. keeps_source covered k a ≡ is_source j known a k) arguments
     each k = among_all (λ a. keeps_source covered k a ≡ is_source j known a k) arguments (λ a at.
-        (let less = argument_of a at in let within = reach.within in
+        (let less = (argument_is c place a arguments values rests at).2 in let within = reach.within in
         covered_source j fits known a k (covered_sources covered a) (omega (arith, less, within))
         (all_among (HasSources covered) arguments a joined.kept at)
         (covered_sources_are c covered place a arguments values wave reach rests before at)))
@@ -147,15 +139,14 @@ rule_sources c covered place arguments all values wave reach rests before joined
 
     born : list_any is_unknown values ≡ reads_filling j known place
     born = values_born j fits known place reach.within values (λ k. false)
-        (subst (λ xs. length values ≡ 2 ^ length xs) rests.are_essential rests.is_table.long)
-        (values_are j fits known place values reach.within
-        (subst (λ xs. IsTableOver j known place xs values) rests.are_essential rests.is_table).are_values)
+        (essential_table c place arguments values rests).long
+        (values_are j fits known place values reach.within (essential_table c place arguments values rests).are_values)
         ∙ on (is_never_unknown j known place) (is_carried (class_of j known place)) rests.free
 
     below : AllByRecursion (λ k. k < place) all
     below = among_all (λ k. k < place) all (λ k at.
         (let some = in_any (keeps_source covered k) arguments (sym (joined.are k) ∙ at) in
-        let less = argument_of some.0 some.1 in
+        let less = (argument_is c place some.0 arguments values rests some.1).2 in
         let source : is_source j known some.0 k ≡ true = sym (all_among (λ a. keeps_source covered k a ≡ is_source j known a k) arguments some.0 (each k) some.1) ∙ some.2 in
         let within = reach.within in
         let low = cone_within j fits known some.0 k (omega (arith, less, within)) (and_parts (in_cone j known some.0 k) (reads_filling j known k) source).0 in

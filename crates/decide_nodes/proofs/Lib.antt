@@ -1,4 +1,5 @@
 -- Lemmas on the nodes of cones.
+pub mod ChosenLanes
 pub mod ConeBits
 pub mod ConeLaws
 pub mod EachLane

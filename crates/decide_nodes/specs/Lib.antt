@@ -1,4 +1,5 @@
 -- Definitions of the nodes of cones.
+pub mod Choice
 pub mod Lanes
 pub mod Listed
 pub mod Nodes

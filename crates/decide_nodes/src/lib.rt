@@ -3,6 +3,7 @@
 //! Start at specs/Nodes.antt and specs/Traced.antt, then at `Cone`.
 #![tactic(auto)]
 
+mod choice;
 mod cone;
 mod cone_lanes;
 mod evaluate;
@@ -14,6 +15,7 @@ mod node;
 mod positions;
 mod values;
 
+pub use choice::table_lanes;
 pub use cone::Cone;
 pub use cone_lanes::ConeLanes;
 pub use lane_bits::LaneBits;

@@ -1,5 +1,4 @@
 -- Lemmas on tables over sources.
-pub mod ChosenLanes
 pub mod KeptBlocks
 pub mod ListedPlaces
 pub mod OtherNumbers

@@ -1,5 +1,4 @@
 -- Definitions of tables over sources.
-pub mod Choice
 pub mod Evaluated
 pub mod Kept
 pub mod Other

@@ -6,11 +6,10 @@ ghost use Rattle.decide_nodes.specs.Nodes.{is_listed, is_same_place, number_bits
 ghost use Rattle.decide_tables.specs.Evaluated.{AreFirstBlocks, AreFoundBlocks, IsFoundBlock};
 ghost use Rattle.decide_tables.specs.Tables.{AreAllOf, HasBlock, filling_by};
 
-use crate::choice::table_lanes;
 use crate::kept::KeptTables;
 use base_lists::Memory;
 use decide_graph::{Graph, KeptNode};
-use decide_nodes::LaneBits;
+use decide_nodes::{LaneBits, table_lanes};
 use decide_pair::{number_blocks, source_lanes};
 use design_circuit::Place;
 use std::alloc::Global;

@@ -9,7 +9,6 @@
 //! `SourceTables`.
 #![tactic(auto)]
 
-mod choice;
 mod evaluate;
 mod fillings;
 mod kept;
@@ -18,7 +17,6 @@ mod missing;
 mod other;
 mod tables;
 
-pub use choice::table_lanes;
 pub use laws::tables_stay;
 pub use other::{Compared, Other};
 pub use tables::SourceTables;

@@ -1,5 +1,5 @@
 -- The node's own table chooses, from the blocks that were found.
-use Rattle.std.proofs.Common.{arith, refl}
+use Rattle.std.proofs.Common.{arith}
 use Rattle.decide_tables.proofs.RightTables.{block_right}
 use Rattle.decide_tables.proofs.evaluate.block_lanes.Goals as goal
 
@@ -12,6 +12,6 @@ returns c =
     let few = stands.few in
     let long = c.read_blocks.ensures.long in
     block_right c.args.graph.now c.args.list.now c.args.tables.now c.args.node c.args.block kept.place arguments
-    kept.values.now full _ c.listed_lanes-own.result c.table_lanes.result c.requires.right c.node-kept.ensures.node
-    stands.before (omega (arith, few, long)) refl (c.read_blocks.ensures.all c.if-not-read_blocks.false)
+    kept.values.now full c.listed_lanes-own.result c.table_lanes.result c.requires.right c.node-kept.ensures.node
+    stands.before (omega (arith, few, long)) (c.read_blocks.ensures.all c.if-not-read_blocks.false)
     c.listed_lanes-own.ensures c.table_lanes.ensures

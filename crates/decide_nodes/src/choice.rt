@@ -4,9 +4,9 @@ ghost use Rattle.std.specs.Prelude.{◌≡◌, ◌+◌, ◌*◌, ◌<◌, ◌≤
 ghost use Rattle.design_cell.specs.declared.value.Value.TheVariants.{X as Unknown};
 ghost use Rattle.design_circuit.specs.World.{decided};
 ghost use Rattle.decide_nodes.specs.Lanes.{HasLanes, in_lane};
-ghost use Rattle.decide_tables.specs.Choice.{number_at, value_at};
+ghost use Rattle.decide_nodes.specs.Choice.{number_at, value_at};
 
-use decide_nodes::LaneBits;
+use crate::lane_bits::LaneBits;
 use design_cell::Value;
 
 /// The lanes of a table: in each lane the value whose number the arguments have there, or what the filling gives where

@@ -1,8 +1,8 @@
 -- The first argument chooses between the halves.
 use Rattle.std.proofs.Common.{◌≤◌, [], arith, length, sym, ◌∙◌}
 use Rattle.std.proofs.lemmas.List.{get_or_default}
-use Rattle.decide_tables.proofs.ChosenLanes.{chosen_half, halved, rest_shorter}
-use Rattle.decide_tables.proofs.choice.+part_lanes.Goals as goal
+use Rattle.decide_nodes.proofs.ChosenLanes.{chosen_half, halved, rest_shorter}
+use Rattle.decide_nodes.proofs.choice.+part_lanes.Goals as goal
 
 pub part_lanes-low-requires : goal.part_lanes-low-requires
 part_lanes-low-requires t c =

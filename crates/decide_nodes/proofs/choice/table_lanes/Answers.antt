@@ -1,7 +1,7 @@
 -- There are at most 2 to the 13 values.
 use Rattle.std.proofs.Common.{length}
-use Rattle.decide_tables.proofs.ChosenLanes.{few_values}
-use Rattle.decide_tables.proofs.choice.table_lanes.Goals as goal
+use Rattle.decide_nodes.proofs.ChosenLanes.{few_values}
+use Rattle.decide_nodes.proofs.choice.table_lanes.Goals as goal
 
 pub part_lanes-requires-clause-small : goal.part_lanes-requires-clause-small
 part_lanes-requires-clause-small c =

@@ -1,11 +1,12 @@
 -- The lanes of a table, chosen argument by argument.
-use Rattle.std.proofs.Common.{◌≡◌, ℕ, ◌+◌, ◌-◌, ◌*◌, ◌^◌, ◌<◌, ◌≤◌, cond, Bool, true, false, List, [], ◌∷◌, length, take, drop, get_or, if◌then◌else◌, refl, sym, ap, ◌∙◌, arith}
+use Rattle.std.proofs.Common.{◌≡◌, ℕ, suc, ◌+◌, ◌-◌, ◌*◌, ◌^◌, ◌<◌, ◌≤◌, cond, Bool, true, false, List, [], ◌∷◌, length, take, drop, get_or, if◌then◌else◌, refl, sym, ap, ◌∙◌, arith, slice_index, slice_index_or}
 use Rattle.std.proofs.Math.Nat.{pow-suc}
 use Rattle.std.proofs.Math.Pow.{pow_mono}
 use Rattle.std.proofs.Math.Seq.{take-length}
 use Rattle.design_cell.specs.declared.value.Value.{Value}
+use Rattle.law_model.specs.Mask.{mask_of}
 use Rattle.decide_nodes.specs.Lanes.{HasLanes, in_lane}
-use Rattle.decide_tables.specs.Choice.{number_at, value_at}
+use Rattle.decide_nodes.specs.Choice.{number_at, value_at}
 
 abbrev others : List (List ℕ) → List (List ℕ)
 others xs = take (length xs - 1) (drop 1 xs)
@@ -60,3 +61,12 @@ chosen_half arguments values own low high lane_bits all base weight some is has_
     ∙ if_same (λ n. value_at values n (in_lane own lane)) (in_lane (get_or arguments 0 []) lane) _ _
     ∙ ap (λ n. value_at values n (in_lane own lane)) (index_of (in_lane (get_or arguments 0 []) lane) base weight
     (number_at (others arguments) lane) ∙ ap (λ m. base + weight * m) (sym (number_split arguments lane some)))
+
+-- The number that the first of some lanes have, one for each place, is that of the places' bits.
+pub number_is : (places : List ℕ) (given : List (List ℕ)) (bits : ℕ → Bool) (lane : ℕ) → length places ≤ length given
+    → ((k : ℕ) → k < length places → in_lane (slice_index_or given k []) lane ≡ bits (slice_index places k))
+    → number_at (take (length places) given) lane ≡ mask_of places bits
+number_is [] given bits lane few same = refl
+number_is (p ∷ ps) [] bits lane few same = absurd (omega arith)
+number_is (p ∷ ps) (g ∷ gs) bits lane few same =
+    rw (same 0 (omega arith), number_is ps gs bits lane (omega arith) (λ k less. same (suc k) (omega arith))) refl
