@@ -10,8 +10,8 @@ use Rattle.law_model.specs.Query.{IsQuery}
 use Rattle.sat_proof.specs.Follows.{IsTight, without}
 use Rattle.sat_proof.specs.declared.clause.Cnf.{Cnf}
 use Rattle.sat_proof.specs.Log.{AreFresh, AreSameSet, before, clause_at}
-use Rattle.sat_query.proofs.Cores.{before_more, follows_more}
-pub use Rattle.sat_query.proofs.Cores.{refutes_more}
+use Rattle.sat_query.proofs.MoreClauses.{before_more, follows_more}
+pub use Rattle.sat_query.proofs.MoreClauses.{refutes_more}
 use Rattle.sat_query.specs.Core.{AreAmong}
 
 -- Two queries of a place have the same clauses.

@@ -1,4 +1,4 @@
 -- Proofs about models and logs that are tested.
-pub mod Cores
 pub mod Literals
+pub mod MoreClauses
 pub mod StatedModels

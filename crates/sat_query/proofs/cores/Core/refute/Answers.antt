@@ -1,7 +1,7 @@
 -- The log refutes the formula, since that has all clauses that it needs.
 use Rattle.std.proofs.Common.{sym, subst, ◌∙◌}
 use Rattle.sat_proof.specs.Log.{Refutes}
-use Rattle.sat_query.proofs.Cores.{refutes_more}
+use Rattle.sat_query.proofs.MoreClauses.{refutes_more}
 use Rattle.sat_query.specs.Core.{AreAmong}
 use Rattle.sat_query.proofs.cores.Core.refute.Goals as goal
 

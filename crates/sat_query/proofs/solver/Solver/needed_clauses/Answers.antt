@@ -2,7 +2,7 @@
 use Rattle.std.proofs.Common.{sym, subst}
 use Rattle.std.specs.Prelude.{◌≤◌, nat_abs}
 use Rattle.std.specs.List.{All}
-use Rattle.sat_query.proofs.Cores.{all_among}
+use Rattle.sat_query.proofs.MoreClauses.{all_among}
 use Rattle.sat_query.specs.Core.{AreAmong}
 use Rattle.sat_query.proofs.solver.Solver.needed_clauses.Goals as goal
 
