@@ -80,7 +80,7 @@ carried_next c lanes covered place from inverted literal result wave right is le
     let t = carried_covered c lanes covered place from inverted wave right is less class of in
     let before = covered_before c lanes covered place right is of in
     let there : IsLiteralIn c covered.nodes.now (covered_literal covered from) from = before.each from t.first t.below in
-    rw (result_is, literal_is) (carried_literal c lanes.nodes (covered_literal covered from) place from inverted wave less uncertain
+    rw (result_is, literal_is) (carried_literal c lanes.nodes (covered_literal covered from) place from inverted wave less
     class (subst (λ ns. IsLiteralIn c ns (covered_literal covered from) from) of.nodes there))
 
 -- The literal of the next place comes in.

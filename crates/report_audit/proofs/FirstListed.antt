@@ -17,12 +17,12 @@ use Rattle.law_waveforms.specs.Audit.{IsAudited, IsFirst, IsListed, MeetsFirst}
 use Rattle.law_waveforms.proofs.Audits.{first_listed, some_listed}
 use Rattle.law_model.specs.Sound.{IsDecided, IsOptimistic}
 use Rattle.law_model.specs.declared.line.Line.{Line as ALine}
+use Rattle.design_circuit.proofs.PlaceNumbers.{place_back}
 use Rattle.wave_proved.specs.Contents.{Contents, IsWave, job, shown_in, written_of}
 use Rattle.report_audit.specs.First.{BeginsAt, ListedLaw, MeetFirst}
 use Rattle.report_audit.specs.Found.{AreFound, listed_below, listed_if}
 use Rattle.report_audit.specs.Listed.{IsAudit, is_listed, lists, replayed_at}
 use Rattle.report_audit.specs.declared.found.Found.{Found}
-use Rattle.report_audit.proofs.Audited.{place_again}
 
 -- What the test of a listed place says.
 listed_so : (mark : Mark) (value shown : Value) → lists mark value shown ≡ true → IsOptimistic mark value shown
@@ -222,7 +222,7 @@ listed_law c replayed place wave audit within = (
 )
   where
     again : replayed_at replayed place ≡ shown_of (job c) replayed (number_of (job c) place)
-    again = ap (λ (p : Place). replayed_at replayed p) (sym (place_again (job c) wave.fits.fits_job place within))
+    again = ap (λ (p : Place). replayed_at replayed p) (sym (place_back (job c) wave.fits.fits_job place within))
 
     by : (b : Bool) → is_listed c replayed place ≡ b
         → IsOptimistic (written_of c place).mark (written_of c place).value (replayed_at replayed place) → is_listed c replayed place ≡ true
