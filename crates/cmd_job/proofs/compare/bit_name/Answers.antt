@@ -12,3 +12,9 @@ name_of-requires c =
     let found : find (λ (b : Bound). b.variable == c.args.variable) recorded.binding.bound ≡ Some c.in-Some.bound.now = search rules in
     let net = found_net netlist.design recorded.binding c.args.variable c.args.bit c.in-Some.bound.now c.requires.binding found c.requires.bit in
     rw c.as_slice-in-Some.ensures net
+
+pub bounds-as_slice-bit : goal.bounds-as_slice-bit
+bounds-as_slice-bit c =
+    let recorded = c.args.recorded.now in
+    let found : find (λ (b : Bound). b.variable == c.args.variable) recorded.binding.bound ≡ Some c.in-Some.bound.now = search rules in
+    rw c.as_slice-in-Some.ensures (rw found at c.requires.bit)
