@@ -11,7 +11,7 @@ ghost use Rattle.wave_proved.specs.Token.{HoldsBare};
 use crate::cones::Cones;
 use base_lists::Memory;
 use decide_lanes::{Lanes, Shown};
-use design_circuit::Filling;
+use design_circuit::{Filling, Place};
 use law_model::Body;
 use std::alloc::Global;
 use wave_proved::Wave;
@@ -94,8 +94,15 @@ fn is_pair(body: &Body, zero: &Filling, one: &Filling) -> bool
 {
     match body {
         Body::Pair(first, second) => {
-            first.as_slice() == zero.as_slice() && second.as_slice() == one.as_slice()
+            are_same(first.as_slice(), zero.as_slice())
+                && are_same(second.as_slice(), one.as_slice())
         }
         Body::Enumerated(_) | Body::Refuted(..) | Body::Undecided(_) => false,
     }
+}
+
+fn are_same(first: &[Place], second: &[Place]) -> bool
+    ensures { IsTrue result → first.now ≡ second.now }
+{
+    first == second
 }
