@@ -1,6 +1,6 @@
 -- What follows from the clauses of a query follows from those of any other list of the same clauses: which list a log
 -- was checked against makes no difference.
-use Rattle.std.proofs.Common.{List}
+use Rattle.std.proofs.Common.{ℕ, List}
 use Rattle.std.specs.Prelude.{ℤ, Contains}
 use Rattle.std.specs.List.{All}
 use Rattle.std.proofs.lemmas.List.Elements.{All-contains, All-contains_itself, All-weaker}
