@@ -15,4 +15,5 @@ pub mod QuietStays
 pub mod ToldCalm
 pub mod WorkedQuiet
 pub mod Sweeps
+pub mod CopiedPlaces
 pub mod LawsOfClass

@@ -1,6 +1,7 @@
 //! The laws of quiet places. None of these functions does anything: what each ensures is a law, proved here once.
 
 ghost use Rattle.law_quiet.specs.Ahead as ahead;
+ghost use Rattle.law_quiet.specs.Copies as copies;
 ghost use Rattle.law_quiet.specs.Laws as spec;
 ghost use Rattle.law_quiet.specs.Runs as runs;
 ghost use Rattle.law_quiet.specs.Sweep as sweep;
@@ -59,4 +60,12 @@ pub fn steps_are_swept()
     ensures visit { sweep.VisitLaw }
     ensures none_due { sweep.NoneDueLaw }
     ensures skip { sweep.SkipLaw }
+{}
+
+/// A copy has the certain value of its argument, and keeps where that does; what is handed in as a history shows at a
+/// copy what it shows at its argument; and so a copy has in a waveform what its argument has.
+pub fn copies_agree()
+    ensures copied { copies.CopyLaw }
+    ensures handed { copies.HandedCopiesLaw }
+    ensures written { copies.CopiesLaw }
 {}

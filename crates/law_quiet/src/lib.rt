@@ -1,14 +1,14 @@
-//! Laws of places that have what their net's place a step before has, so that a walk by changes may pass over them. It
-//! has no code.
+//! Laws of places that have what their net's place a step before has, so that a walk by changes may pass over them; and
+//! of copies, which have what their arguments have. It has no code.
 //!
-//! Start at specs/Due.antt, then specs/Laws.antt.
+//! Start at specs/Due.antt, then specs/Laws.antt, and for copies at specs/Copies.antt.
 #![tactic(auto)]
 
 mod laws;
 mod worked;
 
 pub use laws::{
-    quiet_is_tested, quiet_places_follow, quiet_places_keep, quiet_places_repeat,
+    copies_agree, quiet_is_tested, quiet_places_follow, quiet_places_keep, quiet_places_repeat,
     quiet_places_stay, quiet_runs_repeat, steps_are_swept,
 };
 pub use wave_class::{

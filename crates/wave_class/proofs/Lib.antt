@@ -5,7 +5,7 @@ mod FewNets
 pub mod MixedClasses
 pub mod MovedRules
 mod PassingTests
-mod QuickClasses
+pub mod QuickClasses
 mod RisingPlaces
 pub mod SteadyClasses
 pub mod StepBefore

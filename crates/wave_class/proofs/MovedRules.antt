@@ -49,7 +49,7 @@ as_it_is One = refl
 as_it_is X = refl
 as_it_is Z = refl
 
-agrees_on : (c : ℕ → Value) (class : ClassByNumber) (back : ℕ) (v : Value) → is_carried_on class back ≡ true
+pub agrees_on : (c : ℕ → Value) (class : ClassByNumber) (back : ℕ) (v : Value) → is_carried_on class back ≡ true
     → AgreesWith c class v → v ≡ c back
 agrees_on c (Local bit) back v on agrees = cc
 agrees_on c Free back v on agrees = cc
