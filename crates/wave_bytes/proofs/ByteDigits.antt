@@ -1,5 +1,6 @@
 -- A value and a mark are read back from the low digits of a byte.
-use Rattle.std.proofs.Common.{◌≡◌, ℕ, ◌+◌, ◌*◌, ◌/◌, ◌%◌, ◌≤◌, ◌==◌, Bool, true, false, refl, ap, ◌∙◌, arith}
+use Rattle.std.proofs.Common.{◌≡◌, ℕ, ◌+◌, ◌*◌, ◌/◌, ◌%◌, ◌≤◌, ◌==◌, ◌&&◌, Bool, true, false, refl, ap, ◌∙◌, arith}
+use Rattle.std.proofs.Common.{sym}
 use Rattle.std.proofs.Common.{if◌then◌else◌}
 use Rattle.design_cell.specs.declared.value.Value.{Value}
 use Rattle.design_cell.specs.declared.value.Value.TheVariants.{Zero, One, X, Z}
@@ -7,9 +8,9 @@ use Rattle.design_circuit.specs.History.{two_bits, value_of_bits}
 use Rattle.design_circuit.specs.declared.waveform.Mark.{Mark}
 use Rattle.design_circuit.specs.declared.waveform.Mark.TheVariants.{Certain, Unknown, Undecided}
 use Rattle.design_circuit.specs.declared.waveform.Written.{Written}
-use Rattle.law_quiet.specs.OfClass.{facts}
-use Rattle.wave_bytes.specs.Byte.{facts_of_byte, is_uncertain, mark_of_bits, repeated_byte, two_bits_of_mark}
-use Rattle.wave_bytes.specs.Byte.{written_of_byte}
+use Rattle.law_quiet.specs.OfClass.{Facts, facts}
+use Rattle.wave_bytes.specs.Byte.{copied_byte, facts_of_byte, is_uncertain, low_byte, mark_of_bits, repeated_byte}
+use Rattle.wave_bytes.specs.Byte.{two_bits_of_mark, written_of_byte}
 
 value_back : (v : Value) → value_of_bits (two_bits v) ≡ v
 value_back Zero = refl
@@ -79,3 +80,78 @@ repeated_twice byte =
     ap (λ (w : Written). repeated_byte byte % 16 + (if is_uncertain w.mark then 80 else 64)) (repeated_written byte)
     ∙ ap (λ low. low + (if is_uncertain (written_of_byte byte).mark then 80 else 64))
     (low_again (is_uncertain (written_of_byte byte).mark) byte)
+
+-- The byte of a copy says the value and mark of what it copies,
+two_few : (v : Value) → two_bits v ≤ 3
+two_few Zero = omega arith
+two_few One = omega arith
+two_few X = omega arith
+two_few Z = omega arith
+
+mark_few : (m : Mark) → two_bits_of_mark m ≤ 3
+mark_few Certain = omega arith
+mark_few Unknown = omega arith
+mark_few Undecided = omega arith
+
+low_written : (written : Written) → written_of_byte (low_byte written) ≡ written
+low_written written =
+    written_back written (two_bits written.value) (two_bits_of_mark written.mark) 0 (low_byte written) refl refl
+    (two_few written.value) (mark_few written.mark) (omega arith)
+
+pub copied_written : (byte : ℕ) → written_of_byte (copied_byte byte) ≡ written_of_byte byte
+copied_written byte = by (facts_of_byte byte).keeps
+  where
+    low : ℕ
+    low = low_byte (written_of_byte byte)
+
+    by : (keeps : Bool) → written_of_byte (if keeps then repeated_byte low else low) ≡ written_of_byte byte
+    by true = repeated_written low ∙ low_written (written_of_byte byte)
+    by false = low_written (written_of_byte byte)
+
+-- and of its class that it is carried on, where it keeps and isn't certain, or nothing; and that its net keeps where
+-- that does.
+low_says : (v : Value) (m : Mark) → facts_of_byte (low_byte (written_as v m)) ≡ facts false false false false
+low_says Zero Certain = refl
+low_says Zero Unknown = refl
+low_says Zero Undecided = refl
+low_says One Certain = refl
+low_says One Unknown = refl
+low_says One Undecided = refl
+low_says X Certain = refl
+low_says X Unknown = refl
+low_says X Undecided = refl
+low_says Z Certain = refl
+low_says Z Unknown = refl
+low_says Z Undecided = refl
+
+pub copied_says : (byte : ℕ) → facts_of_byte (copied_byte byte)
+    ≡ facts ((facts_of_byte byte).keeps && is_uncertain (written_of_byte byte).mark) false false
+    (facts_of_byte byte).keeps
+copied_says byte = by (facts_of_byte byte).keeps
+  where
+    low : ℕ
+    low = low_byte (written_of_byte byte)
+
+    by : (keeps : Bool) → facts_of_byte (if keeps then repeated_byte low else low)
+        ≡ facts (keeps && is_uncertain (written_of_byte byte).mark) false false keeps
+    by true = repeated_says low
+        ∙ ap (λ (w : Written). facts (is_uncertain w.mark) false false true) (low_written (written_of_byte byte))
+    by false = low_says (written_of_byte byte).value (written_of_byte byte).mark
+
+-- Where what it copies keeps, and has what it had, the byte is the one before, written again.
+pub copied_again : (byte back : ℕ) → written_of_byte byte ≡ written_of_byte back → (facts_of_byte byte).keeps ≡ true
+    → copied_byte byte ≡ repeated_byte (copied_byte back)
+copied_again byte back same keeps =
+    ap (λ k. if k then repeated_byte (low_byte (written_of_byte byte)) else low_byte (written_of_byte byte)) keeps
+    ∙ ap (λ (w : Written). repeated_byte (low_byte w)) same ∙ sym (by (facts_of_byte back).keeps)
+  where
+    low : ℕ
+    low = low_byte (written_of_byte back)
+
+    by : (k : Bool) → repeated_byte (if k then repeated_byte low else low) ≡ repeated_byte low
+    by true = repeated_twice low
+    by false = refl
+
+pub copied_repeated : (byte : ℕ) → copied_byte (repeated_byte byte) ≡ repeated_byte (copied_byte byte)
+copied_repeated byte = copied_again (repeated_byte byte) byte (repeated_written byte)
+    (ap (λ (f : Facts). f.keeps) (repeated_says byte))

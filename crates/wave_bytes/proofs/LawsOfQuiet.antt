@@ -1,4 +1,5 @@
 -- Laws of law_quiet that this crate passes on.
+pub use Rattle.law_quiet.proofs.CopiedPlaces.{copies_law, handed_law}
 pub use Rattle.law_quiet.proofs.QuietRuns.{run_law}
 pub use Rattle.law_quiet.proofs.QuietTests.{quiet_later}
 pub use Rattle.law_quiet.proofs.SoundQuiet.{agrees_before, sound_agrees}

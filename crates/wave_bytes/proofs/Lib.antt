@@ -6,8 +6,11 @@ mod NextSaid
 mod RepeatedBytes
 mod Tracks
 mod RowPlaces
+mod CopyPlaces
 mod RowLaws
 mod NotedPlaces
 mod ChangedPlaces
 mod AnewPlaces
+mod CopiedBytes
+mod GrownRoots
 pub mod LawsOfQuiet

@@ -1,23 +1,18 @@
 -- Places that are noted as written anew.
-use Rattle.std.proofs.Common.{◌≡◌, ℕ, zero, suc, ◌+◌, ◌-◌, ◌*◌, ◌/◌, ◌%◌, ◌<◌, ◌≤◌, ◌==◌, Bool, true, false, List, []}
-use Rattle.std.proofs.Common.{◌∷◌}
-use Rattle.std.proofs.Common.{◌++◌, drop, if◌then◌else◌, length, nat_lt, refl, slice_index_or, sym, take, ap, ◌∙◌, arith}
-use Rattle.std.proofs.Common.{subst, ⊎_elim, length-append, length-drop, mod-lt}
+use Rattle.std.proofs.Common.{◌≡◌, ◌⊎◌, ℕ, zero, suc, ◌+◌, ◌-◌, ◌<◌, ◌≤◌, ◌==◌, Bool, true, false, List, [], ◌∷◌, ◌++◌}
+use Rattle.std.proofs.Common.{drop, if◌then◌else◌, length, nat_lt, refl, slice_index_or, sym, take, ap, ◌∙◌, arith, inl}
+use Rattle.std.proofs.Common.{inr, subst, ⊎_elim, length-append, length-drop}
 use Rattle.std.proofs.Math.ListN.{get_or-append}
 use Rattle.std.proofs.Math.Seq.{get_or-append_right}
 use Rattle.std.proofs.lemmas.Bool.{cases_eq, cases_lt, le-ltb, lt-ltb, ne_eqb}
-use Rattle.std.proofs.lemmas.Grind.{get_or-set_at}
-use Rattle.std.proofs.lemmas.List.{get_or-drop, get_or-set_other, get_or-take, length-take-le}
+use Rattle.std.proofs.lemmas.List.{get_or-drop, get_or-take, length-take-le}
 use Rattle.wave_bytes.specs.Anew.{anew_byte, anew_number, no_anew, nth_anew, number_behind, number_next}
 use Rattle.wave_bytes.specs.Byte.{repeated_byte}
-use Rattle.wave_bytes.specs.Track.{is_again, no_entry, nth_entry, with_byte_at, with_noted}
-use Rattle.wave_bytes.specs.Rows.{AreAgain, AreAnewBetween, AreBelow, AreNoted, AreRows, IsFrontOf}
-use Rattle.wave_bytes.specs.Rows.{byte_there, bytes_in, nth_track, rows_of}
+use Rattle.wave_bytes.specs.Track.{with_noted}
+use Rattle.wave_bytes.specs.Rows.{AreAgain, AreAnewBetween, AreNoted, IsAgain, IsNoted, byte_there, bytes_in, rows_of}
 use Rattle.wave_bytes.specs.declared.anew.Anew.{Anew}
-use Rattle.wave_bytes.specs.declared.front.Front.{Front}
 use Rattle.wave_bytes.specs.declared.track.Entry.{Entry}
-use Rattle.wave_bytes.proofs.RowPlaces.{bytes_at, entry_at, inside_width, put_by, put_next, some_width}
-use Rattle.wave_bytes.proofs.RowPlaces.{there_again, there_earlier, there_next, whole_of}
+use Rattle.wave_bytes.proofs.RowPlaces.{bytes_at}
 
 -- The places of a log with one more.
 log_front : (log : List Anew) (place : Anew) (i : ℕ) → i < length log → nth_anew (log ++ place ∷ []) i ≡ nth_anew log i
@@ -58,122 +53,70 @@ each_by false place log P old new i low = ⊎_elim
     subst P (sym (log_last log place i (omega (arith, low, long, up)))) new))
     (cases_lt i (length log))
 
--- The next place is noted where its byte is put as an entry.
-abbrev HasNoted : ℕ → List Entry → ℕ → List Anew → Type 0
-HasNoted w t position log = (i : ℕ) → i < length t
-    → (k : ℕ) × (k < length log) × (anew_number (nth_anew log k) ≡ (nth_entry t i).step * w + position)
-
-has_more : (again : Bool) (place : Anew) (w : ℕ) (t : List Entry) (position : ℕ) (log : List Anew)
-    → HasNoted w t position log → HasNoted w t position (with_noted log place again)
-has_more true place w t position log is = is
-has_more false place w t position log is = λ i less.
-    (let old = is i less in
+-- The next place is noted, unless its byte is the one a row before, written again.
+noted_by : (again : Bool) (place : Anew) (log : List Anew) (k : ℕ) → IsNoted log k → IsNoted (with_noted log place again) k
+noted_by true place log k is = is
+noted_by false place log k is =
     let long = length-append log (place ∷ []) in
-    let low = old.1 in
-    (old.0, omega (arith, low, long), ap anew_number (log_front log place old.0 old.1) ∙ old.2))
+    let low = is.1 in
+    (is.0, omega (arith, low, long), ap anew_number (log_front log place is.0 is.1) ∙ is.2)
 
-has_by : (again : Bool) (w step byte position : ℕ) (t : List Entry) (place : Anew) (log : List Anew)
-    → HasNoted w t position (with_noted log place again) → anew_number place ≡ step * w + position
-    → HasNoted w (put_by again t step byte) position (with_noted log place again)
-has_by true w step byte position t place log old whole = old
-has_by false w step byte position t place log old whole = λ i less. ⊎_elim
-    (λ (low : i < length t). (let was = old i low in (
-      was.0,
-      was.1,
-      was.2 ∙ ap (λ (e : Entry). e.step * w + position)
-          (sym (get_or-append t (entry_at step byte ∷ []) no_entry i low)),
-    )))
-    (λ (up : length t ≤ i). (let long = length-append t (entry_at step byte ∷ []) in
-    let last : i - length t ≡ 0 = omega (arith, less, long, up) in
-    let more = length-append log (place ∷ []) in (
-      length log,
-      omega (arith, more),
-      ap anew_number (log_last log place (length log) refl_long)
-          ∙ whole ∙ ap (λ (e : Entry). e.step * w + position)
-          (sym (get_or-append_right t (entry_at step byte ∷ []) i no_entry up
-          ∙ ap (λ k. nth_entry (entry_at step byte ∷ []) k) last)),
-    )))
-    (cases_lt i (length t))
-  where
-    refl_long : length log ≡ length log
-    refl_long = omega arith
+last_by : (again : Bool) (n : ℕ) (place : Anew) (log : List Anew) (IsRepeated : Type 0) → anew_number place ≡ n
+    → (again ≡ true → IsRepeated) → IsNoted (with_noted log place again) n ⊎ IsRepeated
+last_by true n place log IsRepeated is said = inr (said refl)
+last_by false n place log IsRepeated is said =
+    let long = length-append log (place ∷ []) in
+    inl (length log, omega (arith, long), ap anew_number (log_last log place (length log) (omega arith)) ∙ is)
 
--- The next place is put, and noted where it is written anew.
-pub noted_put : (w n byte : ℕ) (front : Front) (ts : List (List Entry)) (place : Anew) (log : List Anew) → 0 < w
-    → length ts ≡ w → AreBelow w n ts → IsFrontOf w n front → anew_number place ≡ n → anew_byte place ≡ byte
-    → AreNoted w n ts log → AreNoted w (n + 1) (put_next ts front byte)
-    (with_noted log place (is_again (nth_track ts front.position) front.step byte))
-noted_put w n byte front ts place log some long below at number_is byte_is is = record {
+-- Places more: those that were there have the bytes that they had, and the last one has a byte.
+pub noted_more : (w n byte : ℕ) (rs : List ℕ) (old new : List (List Entry)) (place : Anew) (log : List Anew)
+    (again : Bool) → 0 < w
+    → ((k : ℕ) → k < n → byte_there w rs new k ≡ byte_there w rs old k) → byte_there w rs new n ≡ byte
+    → anew_number place ≡ n → anew_byte place ≡ byte → (again ≡ true → w ≤ n → IsAgain w rs new n)
+    → AreNoted w n rs old log → AreNoted w (n + 1) rs new (with_noted log place again)
+noted_more w n byte rs old new place log again some same last number_is byte_is said is = record {
   rising = rising_by again n place log number_is is.rising is.reached;
   reached = each_by again place log (λ (a : Anew). anew_number a < n + 1)
       (λ i low. (let old = is.reached i low in omega (arith, old))) (omega (arith, number_is));
-  bytes = each_by again place log (λ (a : Anew). anew_byte a ≡ byte_there w (put_next ts front byte) (anew_number a))
-      (λ i low. is.bytes i low
-      ∙ sym (there_earlier w n byte front ts some long at (anew_number (nth_anew log i)) (is.reached i low)))
-      (byte_is ∙ sym (there_next w n byte front ts some long below at)
-      ∙ ap (byte_there w (put_next ts front byte)) (sym number_is));
-  noted = λ position i inside less. ⊎_elim
-      (λ (same : position ≡ p). (let set = get_or-set_at ts p position y [] same (omega (arith, low, long)) in
-      subst (λ (t : List Entry). HasNoted w t position all) (sym set)
-      (subst (λ q. HasNoted w y q all) (sym same)
-      (has_by again w front.step byte p (nth_track ts p) place log
-      (has_more again place w (nth_track ts p) p log (λ i less. is.noted p i low less))
-      (number_is ∙ sym at.whole))) i less))
-      (λ (other : position ≡ p → ⊥). (let set = get_or-set_other ts p position y [] other in
-      subst (λ (t : List Entry). HasNoted w t position all) (sym set)
-      (has_more again place w (nth_track ts position) position log (λ i less. is.noted position i inside less)) i less))
-      (cases_eq position p);
+  bytes = each_by again place log (λ (a : Anew). anew_byte a ≡ byte_there w rs new (anew_number a))
+      (λ i low. is.bytes i low ∙ sym (same (anew_number (nth_anew log i)) (is.reached i low)))
+      (byte_is ∙ sym last ∙ ap (byte_there w rs new) (sym number_is));
+  noted = λ k later less. ⊎_elim
+      (λ (here : k ≡ n). subst (λ m. IsNoted (with_noted log place again) m ⊎ IsAgain w rs new m) (sym here)
+      (last_by again n place log (IsAgain w rs new n) number_is
+      (λ on. said on (omega (arith, here, later)))))
+      (λ (other : k ≡ n → ⊥). ⊎_elim
+      (λ (found : IsNoted log k). inl (noted_by again place log k found))
+      (λ (repeats : IsAgain w rs old k). inr (same k (omega (arith, less, other)) ∙ repeats
+      ∙ ap repeated_byte (sym (same (k - w) (omega (arith, less, other, some, later))))))
+      (is.noted k later (omega (arith, less, other))))
+      (cases_eq k n);
 }
-  where
-    p : ℕ
-    p = front.position
-
-    again : Bool
-    again = is_again (nth_track ts p) front.step byte
-
-    all : List Anew
-    all = with_noted log place again
-
-    y : List Entry
-    y = with_byte_at (nth_track ts p) front.step byte
-
-    low : p < w
-    low = inside_width w n front some at
 
 -- So many places more, none of them noted.
-pub noted_on : (w n many : ℕ) (ts : List (List Entry)) (log : List Anew) → AreNoted w n ts log
-    → AreNoted w (n + many) ts log
-noted_on w n many ts log is = record {
+pub noted_on : (w n many : ℕ) (rs : List ℕ) (ts : List (List Entry)) (log : List Anew)
+    → ((k : ℕ) → k < many → IsAgain w rs ts (n + k)) → AreNoted w n rs ts log → AreNoted w (n + many) rs ts log
+noted_on w n many rs ts log again is = record {
   rising = is.rising;
   reached = λ i low. (let old = is.reached i low in omega (arith, old));
   bytes = is.bytes;
-  noted = is.noted;
+  noted = λ k later less. ⊎_elim (λ (low : k < n). is.noted k later low)
+      (λ (up : n ≤ k). inr (subst (IsAgain w rs ts) (omega (arith, up)) (again (k - n) (omega (arith, up, less)))))
+      (cases_lt k n);
 }
 
 -- Between two neighbours of the log no place is written anew.
-pub again_between : (w s n number count end : ℕ) (front : Front) (ts : List (List Entry)) (log : List Anew)
-    → AreRows w s n front ts → AreNoted w n ts log → end ≤ n
+pub again_between : (w s n number count end : ℕ) (rs : List ℕ) (ts : List (List Entry)) (log : List Anew)
+    → AreNoted w n rs ts log → end ≤ n
     → (0 < count → anew_number (nth_anew log (count - 1)) < number) → count ≤ length log
-    → (count < length log → end ≤ anew_number (nth_anew log count)) → AreAgain (rows_of w s ts n) number end
-again_between w s n number count end front ts log rows is up last within next = λ place from less later.
-    (let some : 0 < w = some_here place (omega (arith, less, up)) in
-    let whole = whole_of w place some in
-    let step = later_row w (place / w) (place % w) place whole (mod-lt place some) later in
-    let back : place / w ≡ place / w - 1 + 1 = omega (arith, step) in
-    bytes_at w ts n place (omega (arith, less, up))
-    ∙ there_again w (place / w - 1) (place % w) place ts (mod-lt place some)
-    (subst (λ t. t * w + place % w ≡ place) back whole)
-    (λ i inside same. none place from less (is.noted (place % w) i (mod-lt place some) inside)
-    (ap (λ t. t * w + place % w) (same ∙ sym back) ∙ whole))
-    ∙ ap repeated_byte (sym (bytes_at w ts n (place - w) (omega (arith, less, up)))))
+    → (count < length log → end ≤ anew_number (nth_anew log count)) → AreAgain (rows_of w s rs ts n) number end
+again_between w s n number count end rs ts log is up last within next = λ place from less later. ⊎_elim
+    (λ (found : IsNoted log place). absurd (none place from less found))
+    (λ (repeats : IsAgain w rs ts place).
+    bytes_at w rs ts n place (omega (arith, less, up)) ∙ repeats
+    ∙ ap repeated_byte (sym (bytes_at w rs ts n (place - w) (omega (arith, less, up)))))
+    (is.noted place later (omega (arith, less, up)))
   where
-    some_here : (place : ℕ) → place < n → 0 < w
-    some_here place low = some_width w s place (let room = rows.room in omega (arith, low, room))
-
-    later_row : (w t q place : ℕ) → t * w + q ≡ place → q < w → w ≤ place → 0 < t
-    later_row w zero q place whole low more = omega (arith, whole, low, more)
-    later_row w (suc t) q place whole low more = omega arith
-
     below : (k : ℕ) → k < count → anew_number (nth_anew log k) < number
     below k low = ⊎_elim
         (λ (here : k ≡ count - 1). subst (λ m. anew_number (nth_anew log m) < number) (sym here) (last (omega (arith, low))))
@@ -188,12 +131,10 @@ again_between w s n number count end front ts log rows is up last within next = 
         let first = next (omega (arith, up, low)) in omega (arith, rise, first)))
         (cases_eq count k)
 
-    none : (place : ℕ) {there : ℕ} → number ≤ place → place < end
-        → (k : ℕ) × (k < length log) × (anew_number (nth_anew log k) ≡ there) → there ≡ place → ⊥
-    none place from less found here = ⊎_elim
-        (λ (low : found.0 < count). (let b = below found.0 low in let e = found.2 in omega (arith, b, e, here, from)))
-        (λ (up : count ≤ found.0). (let a = above found.0 up found.1 in let e = found.2 in
-        omega (arith, a, e, here, less)))
+    none : (place : ℕ) → number ≤ place → place < end → IsNoted log place → ⊥
+    none place from less found = ⊎_elim
+        (λ (low : found.0 < count). (let b = below found.0 low in let e = found.2 in omega (arith, b, e, from)))
+        (λ (up : count ≤ found.0). (let a = above found.0 up found.1 in let e = found.2 in omega (arith, a, e, less)))
         (cases_lt found.0 count)
 
 -- The places of a part of the log, and those between them.
@@ -225,24 +166,24 @@ nth_part : (log places : List Anew) (first last i : ℕ) → places ≡ take (la
 nth_part log places first last i is less = ap (λ (ps : List Anew). nth_anew ps i) is
     ∙ get_or-take (last - first) (drop first log) i no_anew less ∙ get_or-drop first log i no_anew
 
-pub part_is : (w s n number end first last : ℕ) (front : Front) (ts : List (List Entry)) (log places : List Anew)
-    → AreRows w s n front ts → AreNoted w n ts log → end ≤ n → number ≤ end
+pub part_is : (w s n number end first last : ℕ) (rs : List ℕ) (ts : List (List Entry)) (log places : List Anew)
+    → AreNoted w n rs ts log → end ≤ n → number ≤ end
     → (0 < first → anew_number (nth_anew log (first - 1)) < number)
     → (first < length log → number ≤ anew_number (nth_anew log first))
     → (0 < last → anew_number (nth_anew log (last - 1)) < end) → last ≤ length log
     → (last < length log → end ≤ anew_number (nth_anew log last)) → first ≤ last
-    → places ≡ take (last - first) (drop first log) → AreAnewBetween (rows_of w s ts n) number end places
-part_is w s n number end first last front ts log places rows noted up order before from below within next less is = record {
+    → places ≡ take (last - first) (drop first log) → AreAnewBetween (rows_of w s rs ts n) number end places
+part_is w s n number end first last rs ts log places noted up order before from below within next less is = record {
   inside = λ i low. subst (λ (a : Anew). anew_number a < end) (sym (there i low)) (under (first + i) (omega (arith, low, long)));
   rising = λ i low. subst (λ (a : Anew). number_behind number places i ≤ anew_number a) (sym (there i low))
       (behind_up i low);
   bytes = λ i low. (let reached = under (first + i) (omega (arith, low, long)) in
       ap anew_byte (there i low)
       ∙ noted.bytes (first + i) (omega (arith, low, long, within))
-      ∙ sym (bytes_at w ts n (anew_number (nth_anew log (first + i))) (omega (arith, reached, up)))
-      ∙ ap (λ (a : Anew). slice_index_or (bytes_in w ts n) (anew_number a) 0) (sym (there i low)));
-  between = λ i low. again_between w s n (number_behind number places i) (first + i) (number_next end places i) front ts log
-      rows noted (next_low i low) (last_low i low) (omega (arith, low, long, within)) (next_up i low);
+      ∙ sym (bytes_at w rs ts n (anew_number (nth_anew log (first + i))) (omega (arith, reached, up)))
+      ∙ ap (λ (a : Anew). slice_index_or (bytes_in w rs ts n) (anew_number a) 0) (sym (there i low)));
+  between = λ i low. again_between w s n (number_behind number places i) (first + i) (number_next end places i) rs ts log
+      noted (next_low i low) (last_low i low) (omega (arith, low, long, within)) (next_up i low);
 }
   where
     long : length places ≡ last - first
@@ -302,10 +243,11 @@ part_is w s n number end first last front ts log places rows noted up order befo
         (cases_lt i (length places))
 
 -- The part ends where it begins, or behind.
-pub part_order : (w n number end first last : ℕ) (ts : List (List Entry)) (log : List Anew) → AreNoted w n ts log
+pub part_order : (w n number end first last : ℕ) (rs : List ℕ) (ts : List (List Entry)) (log : List Anew)
+    → AreNoted w n rs ts log
     → number ≤ end → (0 < first → anew_number (nth_anew log (first - 1)) < number) → first ≤ length log
     → (last < length log → end ≤ anew_number (nth_anew log last)) → first ≤ last
-part_order w n number end first last ts log noted order before within next = ⊎_elim
+part_order w n number end first last rs ts log noted order before within next = ⊎_elim
     (λ (wrong : last < first). (let low = before (omega (arith, wrong)) in
     let high = next (omega (arith, wrong, within)) in
     absurd (⊎_elim

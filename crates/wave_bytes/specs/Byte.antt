@@ -1,9 +1,9 @@
 -- A place of a waveform in a byte.
-use Rattle.std.specs.Prelude.{ℕ, ◌+◌, ◌/◌, ◌%◌, ◌==◌, Bool, true, false, List, slice_index_or, if◌then◌else◌}
+use Rattle.std.specs.Prelude.{ℕ, ◌+◌, ◌*◌, ◌/◌, ◌%◌, ◌==◌, Bool, true, false, List, slice_index_or, if◌then◌else◌}
 use Rattle.design_circuit.specs.declared.waveform.Mark.{Mark}
 use Rattle.design_circuit.specs.declared.waveform.Mark.TheVariants.{Certain, Unknown, Undecided}
 use Rattle.design_circuit.specs.declared.waveform.Written.{Written}
-use Rattle.design_circuit.specs.History.{value_of_bits}
+use Rattle.design_circuit.specs.History.{two_bits, value_of_bits}
 use Rattle.law_quiet.specs.OfClass.{Facts, facts}
 
 -- Its value is in the low two bits, its mark in the next two, and behind them a bit each says whether its class is
@@ -33,6 +33,16 @@ is_uncertain Undecided = true
 -- mark, that its net keeps, and that it is Carried from there unless it is certain: then its class is left open.
 abbrev pub repeated_byte : ℕ → ℕ
 repeated_byte byte = byte % 16 + (if is_uncertain (written_of_byte byte).mark then 80 else 64)
+
+-- The byte of a copy, by that of what it copies at its step. It says the same value and mark, whether its net keeps, and
+-- that it is Carried from the step before where it keeps and isn't certain: else its class is left open.
+abbrev pub low_byte : Written → ℕ
+low_byte written = two_bits written.value + 4 * two_bits_of_mark written.mark
+
+abbrev pub copied_byte : ℕ → ℕ
+copied_byte byte =
+    if (facts_of_byte byte).keeps then repeated_byte (low_byte (written_of_byte byte))
+    else low_byte (written_of_byte byte)
 
 -- What the bytes of places say of one of them.
 abbrev pub facts_in : List ℕ → ℕ → Facts

@@ -3,6 +3,7 @@ pub mod Byte
 pub mod Anew
 pub mod Track
 pub mod Rows
+pub mod Roots
 pub mod Front
 pub mod View
 pub mod Changed

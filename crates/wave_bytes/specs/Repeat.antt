@@ -4,6 +4,7 @@ use Rattle.design_circuit.specs.Job.{Job, places_of, step_of}
 use Rattle.design_circuit.specs.Waveform.{certain}
 use Rattle.design_circuit.specs.declared.waveform.Written.{Written}
 use Rattle.law_model.specs.Class.{class_of}
+use Rattle.law_quiet.specs.Copies.{CopiesAgree}
 use Rattle.law_quiet.specs.Laws.{IsSteady, SaysTheSame}
 use Rattle.law_quiet.specs.Runs.{repeated}
 use Rattle.wave_bytes.specs.Byte.{repeated_byte}
@@ -28,6 +29,7 @@ pub record IsRepeatable (v : WaveformView) (many : ℕ) : Type 0 where
   pub stretch : IsStretch (job v) (length v.written) many
   pub agrees : ValuesAgree (job v) (repeated (job v) v.written many)
   pub steady : AreSteadyFrom (job v) (repeated (job v) v.written many) (length v.written)
+  pub copies : CopiesAgree (job v) (repeated (job v) v.written many)
 
 -- The bytes that stand a step before the next places, up to so many.
 abbrev pub row_before : Job → List ℕ → ℕ → List ℕ

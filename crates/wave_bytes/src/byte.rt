@@ -71,6 +71,23 @@ pub fn repeated_byte(byte: u8) -> u8
     }
 }
 
+/// The byte of a copy, by that of what it copies.
+pub fn copied_byte(byte: u8) -> u8
+    ensures { result ≡ spec.copied_byte byte }
+{
+    let low = low_byte(written_in(byte));
+    if keeps(byte) { repeated_byte(low) } else { low }
+}
+
+/// A value and a mark, with a class that is left open and a net that doesn't keep.
+fn low_byte(written: Written) -> u8
+    ensures { result ≡ spec.low_byte written }
+{
+    let value = bits_of_value(written.value);
+    let mark = bits_of_mark(written.mark);
+    value + 4 * mark
+}
+
 fn is_uncertain(mark: Mark) -> bool
     ensures { result ≡ spec.is_uncertain mark }
 {

@@ -9,6 +9,7 @@ ghost use Rattle.design_circuit.specs.Job.{places_of};
 ghost use Rattle.design_circuit.specs.Waveform.{certain, certain_by};
 ghost use Rattle.law_model.specs.Class.{before, is_carried_on};
 ghost use Rattle.law_model.specs.Yields.{is_line};
+ghost use Rattle.law_quiet.specs.Copies.{CopiesAgree};
 ghost use Rattle.law_quiet.specs.OfClass.{is_plain, AreWiresOf};
 ghost use Rattle.wave_bytes.specs.Byte.{facts_in, facts_of_byte, written_of_byte};
 ghost use Rattle.wave_bytes.specs.View.{next_class};
@@ -135,7 +136,7 @@ pub fn keep_repeated(front: Front, before: bool) -> bool
     before || front.position == 0
 }
 
-/// Appends the byte of the next place, whose class is given.
+/// Appends the byte of the next place, whose class is given. A copy has that of what it copies.
 pub fn push_place(
     circuit: &Circuit<'_>,
     rows: &mut Rows,
@@ -147,12 +148,17 @@ pub fn push_place(
     requires kept { AreTrueBytes circuit.now rows.old.bytes }
     requires next { IsNextClass circuit.now rows.old.bytes next }
     requires agrees { ValuesAgree (job_in circuit.now) (map written_of_byte rows.old.bytes ++ written ∷ []) }
+    requires copies { CopiesAgree (job_in circuit.now) (map written_of_byte rows.old.bytes ++ written ∷ []) }
     ensures ok { OnOk result (IsWrittenBehind (job_in circuit.now) rows.old.bytes rows.new.bytes written) }
     ensures err { OnErr result (rows.new ≡ rows.old) }
     ensures rows { AreRowsOf (job_in circuit.now) rows.new }
 {
-    let byte = next_byte(circuit, rows, next, written);
-    rows.push(byte)?;
+    if rows.is_copy() {
+        rows.push_copy()?;
+    } else {
+        let byte = next_byte(circuit, rows, next, written);
+        rows.push(byte)?;
+    }
     Ok(())
 }
 

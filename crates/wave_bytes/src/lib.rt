@@ -2,13 +2,15 @@
 //!
 //! A byte says what stands at its place, whether its net keeps there, and mostly its class, so that the class of a
 //! later place needs no look at drivers further back. Places that have what their nets' places a step before have are
-//! written many at once, and take no memory. Start at specs/View.antt, then at `Waveform`.
+//! written many at once, and take no memory. A copy has the bytes of what it copies, but for its class, and no bytes of
+//! its own: specs/Roots.antt says what copies what. Start at specs/View.antt, then at `Waveform`.
 #![tactic(auto)]
 
 mod anew;
 mod byte;
 mod bytes;
 mod front;
+mod roots;
 mod row;
 mod rows;
 mod track;

@@ -1,21 +1,23 @@
 //! The bytes of places, row after row of one width, kept by what changes.
 
-ghost use Rattle.std.specs.Prelude.{◌≡◌, ◌⊎◌, ℕ, ◌+◌, ◌-◌, ◌*◌, ◌/◌, ◌%◌, ◌<◌, ◌≤◌, ◌^◌, [], IfOk, OnOk, OnErr, length};
-ghost use Rattle.std.specs.Prelude.{replicate, slice_index_or, vec_capacity, vec_len};
+ghost use Rattle.std.specs.Prelude.{◌≡◌, ◌⊎◌, ℕ, ◌+◌, ◌-◌, ◌*◌, ◌/◌, ◌%◌, ◌<◌, ◌≤◌, ◌^◌, [], true, false, IfOk};
+ghost use Rattle.std.specs.Prelude.{OnErr, OnOk, length, replicate, slice_index_or, vec_capacity, vec_len};
 ghost use Rattle.wave_bytes.specs.Anew.{anew_number, nth_anew};
-ghost use Rattle.wave_bytes.specs.Rows.{AreAgain, AreAnewBetween, HasRoom, IsFrontOf, IsRowStretch, and_again};
-ghost use Rattle.wave_bytes.specs.Rows.{and_byte};
+ghost use Rattle.wave_bytes.specs.Rows.{AreAgain, AreAnewBetween, AreCopiedAgain, AreRoots, HasRoom, IsFrontOf};
+ghost use Rattle.wave_bytes.specs.Rows.{IsCopyNext, IsOwnNext, IsRowStretch, and_again, and_byte, byte_by};
+ghost use Rattle.wave_bytes.specs.Rows.{copied_next, is_again_by, nth_root};
 ghost use Rattle.wave_bytes.specs.Track.{with_noted};
 
 use crate::anew::Anew;
+use crate::byte::{copied_byte, repeated_byte};
 use crate::front::Front;
 use crate::track::Track;
 use base_lists::Memory;
 use std::alloc::Global;
 use std::marker::Model;
 
-/// A byte for each place. One that is that of its position a row before, written again, isn't kept. Contracts see the
-/// list of all.
+/// A byte for each place. One that is that of its position a row before, written again, isn't kept, and a position that
+/// copies another one has the entries of that. Contracts see what each position copies, and the list of all bytes.
 #[derive(Debug, Drop)]
 pub struct Rows {
     width: usize,
@@ -23,6 +25,8 @@ pub struct Rows {
     count: usize,
     /// Where the next place stands.
     front: Front,
+    /// What each position copies: itself, where it copies none.
+    roots: Vec<u32>,
     tracks: Vec<Track>,
     /// The places that are written anew, in place order.
     log: Vec<Anew>,
@@ -33,22 +37,25 @@ impl Model for Rows {
 
     ghost Value = { RowsView };
 
-    ghost view = { λ r. rows_of r.width r.steps r.tracks.items r.count };
+    ghost view = { λ r. rows_of r.width r.steps r.roots.items r.tracks.items r.count };
 
     ghost invariant = { λ r. record {
-      rows : AreRows r.width r.steps r.count r.front r.tracks.items;
-      noted : AreNoted r.width r.count r.tracks.items r.log.items;
+      rows : AreRows r.width r.steps r.count r.front r.roots.items r.tracks.items;
+      noted : AreNoted r.width r.count r.roots.items r.tracks.items r.log.items;
     } };
 }
 
 impl Rows {
-    /// None yet, of rows that are so wide, with room for so many rows. Takes 32 bytes for each position.
-    pub fn new(alloc: Global, width: usize, steps: usize) -> Result<Rows, Memory>
-        requires narrow { width ≤ 2 ^ 32 }
+    /// None yet, of rows with so many positions, with room for so many rows. Takes 32 bytes for each position.
+    pub fn new(alloc: Global, roots: Vec<u32>, steps: usize) -> Result<Rows, Memory>
+        requires roots { AreRoots (length roots.items) roots.items }
+        requires narrow { length roots.items ≤ 2 ^ 32 }
         requires few { steps ≤ 2 ^ 32 }
-        requires small { steps * width ≤ 2 ^ 40 }
-        ensures { IfOk result (λ rows. rows ≡ record { width = width; steps = steps; bytes = [] }) }
+        requires small { steps * length roots.items ≤ 2 ^ 40 }
+        ensures { IfOk result (λ rows. rows ≡
+            record { width = length roots.items; steps = steps; roots = roots.items; bytes = [] }) }
     {
+        let width = roots.as_slice().len();
         let tracks = empty_tracks(alloc, width)?;
         let front = Front {
             step: 0,
@@ -59,6 +66,7 @@ impl Rows {
             steps,
             count: 0,
             front,
+            roots,
             tracks,
             log: Vec::new(alloc),
         })
@@ -78,7 +86,17 @@ impl Rows {
         ensures { result ≡ slice_index_or self.now.bytes number 0 }
     {
         let place = front_of(number, self.count, self.front, self.width);
-        self.tracks[place.position].byte_at(place.step)
+        let root = root_of(self.roots.as_slice(), place.position);
+        byte_in(self.tracks.as_slice(), place, root)
+    }
+
+    /// Whether the position of the next place copies another one.
+    pub fn is_copy(&self) -> bool
+        requires { HasRoom self.now 1 }
+        ensures own { result ≡ false → IsOwnNext self.now }
+        ensures copy { result ≡ true → IsCopyNext self.now }
+    {
+        root_of(self.roots.as_slice(), self.front.position) != self.front.position
     }
 
     /// The first place from a number on that is written anew, or the end: each place between has the byte of its
@@ -105,9 +123,11 @@ impl Rows {
         &self.log[first..last]
     }
 
-    /// Appends the byte of a place. Takes 16 to 32 bytes where it is written anew, as each of the first row is.
+    /// Appends the byte of a place whose position copies nothing. Takes 16 to 32 bytes where it is written anew, as
+    /// each of the first row is.
     pub fn push(&mut self, byte: u8) -> Result<(), Memory>
-        requires { HasRoom self.old 1 }
+        requires room { HasRoom self.old 1 }
+        requires own { IsOwnNext self.old }
         ensures ok { OnOk result (self.new ≡ and_byte self.old byte) }
         ensures err { OnErr result (self.new ≡ self.old) }
     {
@@ -123,15 +143,71 @@ impl Rows {
         Ok(())
     }
 
+    /// Appends the byte of a place whose position copies another one. Takes 8 to 16 bytes where it is written anew.
+    pub fn push_copy(&mut self) -> Result<(), Memory>
+        requires room { HasRoom self.old 1 }
+        requires copy { IsCopyNext self.old }
+        ensures ok { OnOk result (self.new ≡ and_byte self.old (copied_next self.old)) }
+        ensures err { OnErr result (self.new ≡ self.old) }
+    {
+        let front = front_past(self.front, self.width, 1);
+        let root = root_of(self.roots.as_slice(), self.front.position);
+        let byte = byte_in(self.tracks.as_slice(), self.front, root);
+        let again = is_again_in(self.tracks.as_slice(), self.front, root, byte);
+        let place = Anew::new(self.count, byte);
+        self.log.reserve(1)?;
+        note(&mut self.log, place, again);
+        self.front = front;
+        self.count += 1;
+        Ok(())
+    }
+
     /// Appends the bytes of so many places of one row, each that of its position a row before, written again. Takes no
     /// time and no memory.
     pub fn repeat(&mut self, many: usize)
-        requires { IsRowStretch self.old many }
+        requires stretch { IsRowStretch self.old many }
+        requires copied { AreCopiedAgain self.old many }
         ensures { self.new ≡ and_again self.old many }
     {
         self.front = front_past(self.front, self.width, many);
         self.count += many;
     }
+}
+
+/// What a position copies.
+fn root_of(roots: &[u32], position: usize) -> usize
+    requires { position < length roots.now }
+    ensures { result ≡ nth_root roots.now position }
+{
+    roots[position] as usize
+}
+
+/// The byte at a position of a step, given what the position copies.
+fn byte_in(tracks: &[Track], place: Front, root: usize) -> u8
+    requires { root < length tracks.now }
+    ensures { result ≡ byte_by tracks.now place.position root place.step }
+{
+    let byte = tracks[root].byte_at(place.step);
+    if root == place.position {
+        byte
+    } else {
+        copied_byte(byte)
+    }
+}
+
+/// Whether it is the one a step before, written again.
+fn is_again_in(tracks: &[Track], place: Front, root: usize, byte: u8) -> bool
+    requires { root < length tracks.now }
+    ensures { result ≡ is_again_by tracks.now place.position root place.step byte }
+{
+    if place.step == 0 {
+        return false;
+    }
+    let back = Front {
+        step: place.step - 1,
+        position: place.position,
+    };
+    byte == repeated_byte(byte_in(tracks, back, root))
 }
 
 fn empty_tracks(alloc: Global, width: usize) -> Result<Vec<Track>, Memory>

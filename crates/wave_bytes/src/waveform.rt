@@ -6,6 +6,7 @@ ghost use Rattle.design_circuit.specs.Fits.{place_at};
 ghost use Rattle.design_circuit.specs.Waveform.{certain, written_at};
 ghost use Rattle.law_model.specs.Assignment as assignment;
 ghost use Rattle.law_model.specs.Class.{class_of};
+ghost use Rattle.law_quiet.specs.Copies.{CopiesAgree};
 ghost use Rattle.law_quiet.specs.OfClass.{numbered_value};
 ghost use Rattle.wave_bytes.specs.Changed.{AllKeepFrom, AreAnewAt, IsWholeLater};
 ghost use Rattle.wave_bytes.specs.Kept.{ValuesAgree};
@@ -17,6 +18,7 @@ use crate::anew::Anew;
 use crate::byte::{keeps, written_in};
 use crate::bytes::{Bytes, class_behind, keep_behind, keep_repeated, push_place};
 use crate::front::{Front, first_front, front_after, front_behind, place_there};
+use crate::roots::roots_of;
 use crate::rows::Rows;
 use base_lists::Memory;
 use design_cell::Value;
@@ -71,13 +73,15 @@ impl<'a> Model for Waveform<'a> {
 }
 
 impl<'a> Waveform<'a> {
-    /// One of which nothing is written. Takes 48 bytes for each net, 8 to 24 for each pin. What is written takes 16
-    /// to 32 bytes for each place that has not what its net's place a step before has, as each of the first step.
+    /// One of which nothing is written. Takes 52 bytes for each net, 8 to 24 for each pin. What is written takes 16
+    /// to 32 bytes for each place that has not what its net's place a step before has, as each of the first step; 8 to
+    /// 16 for that of a copy.
     pub fn new(alloc: Global, circuit: Circuit<'a>) -> Result<Waveform<'a>, Memory>
         ensures { IfOk result (λ w. w ≡ waveform_of circuit.entry []) }
     {
         let wiring = Wiring::of(alloc, circuit.design, circuit.order)?;
-        let rows = Rows::new(alloc, width_of(&circuit), count_steps(&circuit))?;
+        let roots = roots_of(alloc, &circuit)?;
+        let rows = Rows::new(alloc, roots, count_steps(&circuit))?;
         let front = first_front(&circuit);
         Ok(Waveform {
             circuit,
@@ -225,10 +229,12 @@ impl<'a> Waveform<'a> {
         rule_value(&self.circuit, &bytes, number, bits)
     }
 
-    /// Writes the next place. Takes 16 to 32 bytes where it has not what its net's place a step before has.
+    /// Writes the next place. Takes 16 to 32 bytes where it has not what its net's place a step before has, 8 to 16 of
+    /// these where it is a copy's.
     pub fn push(&mut self, written: Written) -> Result<(), Memory>
         requires next { HasMore self.old }
         requires agrees { ValuesAgree (job self.old) (self.old.written ++ written ∷ []) }
+        requires copies { CopiesAgree (job self.old) (self.old.written ++ written ∷ []) }
         ensures ok { OnOk result (self.new ≡ and_one self.old written) }
         ensures err { OnErr result (self.new ≡ self.old) }
     {

@@ -1,2 +1,3 @@
 -- Laws of law_quiet that this crate passes on.
-pub use Rattle.wave_bytes.proofs.LawsOfQuiet.{repeated_long, run_law, sound_agrees}
+pub use Rattle.wave_bytes.proofs.LawsOfQuiet.{copies_law, handed_law, repeated_long, run_law}
+pub use Rattle.wave_bytes.proofs.LawsOfQuiet.{sound_agrees}

@@ -9,7 +9,7 @@ use Rattle.design_circuit.specs.Waveform.{certain}
 use Rattle.law_model.specs.Class.{class_of}
 use Rattle.design_circuit.proofs.Rules.{spot}
 use Rattle.wave_bytes.specs.OfQuiet.{taken_on, IsRepeated, IsRun, repeated, spot_at}
-use Rattle.wave_bytes.proofs.LawsOfQuiet.{run_law, quiet_later, agrees_before}
+use Rattle.wave_bytes.proofs.LawsOfQuiet.{agrees_before, copies_law, quiet_later, run_law}
 use Rattle.wave_bytes.proofs.LawsOfQuiet.{none_due_law, repeated_long, skip_law}
 use Rattle.replay_due.specs.Due.{NoneBetween, is_due}
 use Rattle.wave_bytes.specs.Repeat.{IsRepeatable, IsStretch}
@@ -90,6 +90,7 @@ run_repeatable v fits shown many some held run =
     record {
       stretch = run_stretch j fits shown v.written many some run;
       agrees = agrees_before j held.limits shown after held.lines again.holds.sound (length after) (omega arith);
+      copies = copies_law j held.limits shown after held.lines fits again.holds held.copies;
       steady = record {
         says = λ place from less. again.says place from (omega (arith, less, long));
         steady = λ place from less. again.steady place from (omega (arith, less, long));

@@ -1,3 +1,3 @@
 -- Words of law_quiet that this crate passes on.
-pub use Rattle.wave_bytes.specs.OfQuiet.{IsRepeated, IsRun, before_next}
+pub use Rattle.wave_bytes.specs.OfQuiet.{CopiesAgree, CopiesShow, IsRepeated, IsRun, before_next}
 unfoldable pub use Rattle.wave_bytes.specs.OfQuiet.{repeated}

@@ -11,7 +11,7 @@ use Rattle.law_model.specs.Class.{class_of}
 use Rattle.law_model.specs.Growth.{Holds}
 use Rattle.law_model.specs.declared.line.Line.{Line as ALine}
 use Rattle.law_model.specs.declared.limits.Limits.{Limits}
-use Rattle.wave_bytes.specs.OfQuiet.{tells_calm_of, driver_of, IsRun, IsGoneOver}
+use Rattle.wave_bytes.specs.OfQuiet.{CopiesShow, tells_calm_of, driver_of, IsRun, IsGoneOver}
 use Rattle.replay_due.specs.Due.{HasRoomFor, is_due}
 use Rattle.replay_due.specs.Readers.{readers_of}
 use Rattle.wave_bytes.specs.View as view
@@ -47,9 +47,11 @@ pub record IsWalk (j : Job) (waveform : List Written) (walk : Walk) : Type 0 whe
 abbrev pub IsWalkOf : WaveformView → Walk → Type 0
 IsWalkOf v walk = IsWalk (view.job v) v.written walk
 
--- What is always true of a waveform that lines justify, whatever they are, and its job fits.
+-- What is always true of a waveform that lines justify, whatever they are, and its job fits: over a history that shows
+-- at copies what it shows at their arguments.
 pub record IsHeld (j : Job) (shown : ℕ → Value) (waveform : List Written) : Type 0 where
   pub fits : Fits j
+  pub copies : CopiesShow j shown
   pub limits : Limits
   pub lines : List ALine
   pub holds : Holds j limits shown waveform lines

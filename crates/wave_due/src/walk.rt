@@ -11,7 +11,7 @@ ghost use Rattle.design_circuit.specs.Handed.{HasPlaces, shown_of};
 ghost use Rattle.design_circuit.specs.Fits.{place_at};
 ghost use Rattle.replay_fans.specs.Marks.{OnlyMore};
 ghost use Rattle.replay_fans.specs.Readings.{AreFans};
-ghost use Rattle.wave_bytes.specs.OfQuiet.{IsRun, tells_calm_of};
+ghost use Rattle.wave_bytes.specs.OfQuiet.{CopiesAgree, IsRun, tells_calm_of};
 ghost use Rattle.replay_due.specs.Due.{HasRoom, HasRoomFor, is_due};
 ghost use Rattle.replay_due.specs.Readers.{readers_of};
 ghost use Rattle.wave_bytes.specs.Kept.{ValuesAgree};
@@ -70,6 +70,7 @@ impl<'a> Walk<'a> {
     pub fn write(&mut self, waveform: &mut Waveform<'_>, written: Written) -> Result<(), Memory>
         requires next { HasMore waveform.old }
         requires agrees { ValuesAgree (view.job waveform.old) (waveform.old.written ++ written ∷ []) }
+        requires copies { CopiesAgree (view.job waveform.old) (waveform.old.written ++ written ∷ []) }
         requires walk { IsWalkOf waveform.old self.old }
         ensures waveform { OnOk result (waveform.new ≡ and_one waveform.old written) }
         ensures walk { OnOk result (IsWalkOf waveform.new self.new) }

@@ -12,7 +12,8 @@ use Rattle.law_model.specs.declared.line.Line.{Line as ALine}
 use Rattle.law_model.proofs.WaveInvariant.{grown}
 use Rattle.law_model.specs.declared.limits.Limits.{Limits}
 use Rattle.wave_proved.specs.Advance.{Contradicts, IsPlain, plain_written}
-use Rattle.wave_due.proofs.LawsOfQuiet.{sound_agrees}
+use Rattle.wave_due.proofs.LawsOfQuiet.{copies_law, handed_law, sound_agrees}
+use Rattle.wave_due.specs.OfQuiet.{CopiesAgree}
 use Rattle.wave_due.specs.OfWaveBytes.{ValuesAgree}
 use Rattle.wave_proved.specs.Contents.{Contents, IsWave, class_in, class_or_done, job, next_number, next_seen, shown_in}
 
@@ -33,6 +34,12 @@ pub wave_agrees : (c : Contents) (x : Written) (new : List ALine) → IsWave c
     → NextHolds (job c) c.limits (shown_in c) c.written x new → ValuesAgree (job c) (c.written ++ x ∷ [])
 wave_agrees c x new is next = sound_agrees (job c) c.limits (shown_in c) (c.written ++ x ∷ []) (c.lines ++ new)
     (wave_grown c x new is next).holds.sound
+
+-- And a copy has what its argument has.
+pub wave_copies : (c : Contents) (x : Written) (new : List ALine) → IsWave c
+    → NextHolds (job c) c.limits (shown_in c) c.written x new → CopiesAgree (job c) (c.written ++ x ∷ [])
+wave_copies c x new is next = copies_law (job c) c.limits (shown_in c) (c.written ++ x ∷ []) (c.lines ++ new)
+    is.fits.fits_job (wave_grown c x new is next).holds (handed_law (job c) c.history is.fits.fits_job is.handed)
 
 -- The same where the lists are those that a body makes.
 pub wave_next : (c : Contents) (x : Written) (new : List ALine) → IsWave c

@@ -16,6 +16,7 @@ ghost use Rattle.wave_proved.specs.Contents.{FromWithin, AreLimits, IsReached, I
 ghost use Rattle.wave_proved.specs.Contents.{class_in};
 ghost use Rattle.wave_proved.specs.Contents.{job, next_number, next_place, next_seen, nothing_of, rule_in, shown_in};
 ghost use Rattle.wave_proved.specs.Contents.{written_of};
+ghost use Rattle.wave_due.specs.OfQuiet.{CopiesAgree};
 ghost use Rattle.wave_due.specs.OfWaveBytes.{ValuesAgree};
 ghost use Rattle.wave_due.specs.OfWaveBytes as view;
 ghost use Rattle.wave_due.specs.OfWaveBytes.{HasMore, and_one, and_repeated, keeps_there, next_class};
@@ -61,10 +62,10 @@ impl<'a> Model for Wave<'a> {
 }
 
 impl<'a> Wave<'a> {
-    /// A wave of which nothing is written. `limits` say how its places are decided. Takes
-    /// some 88 bytes for each net, 4 more for one on which the recording acts, 12 to 28 for each pin, and on the way 16
-    /// more for each pin; what is written takes 16 to 32 for each place that has something else than its net's a step
-    /// before.
+    /// A wave of which nothing is written. `limits` say how its places are decided. Takes some 92 bytes for each net, 4
+    /// more for one on which the recording acts, 12 to 28 for each pin, and on the way 16 more for each pin; what is
+    /// written takes 16 to 32 for each place that has something else than its net's a step before, 8 to 16 for that of
+    /// a copy.
     pub fn new(
         alloc: Global,
         circuit: Circuit<'a>,
@@ -341,6 +342,7 @@ impl<'a> Parts<'a> {
     fn push(&mut self, written: Written) -> Result<(), Memory>
         requires next { HasMore self.old.waveform }
         requires agrees { ValuesAgree (view.job self.old.waveform) (self.old.waveform.written ++ written ∷ []) }
+        requires copies { CopiesAgree (view.job self.old.waveform) (self.old.waveform.written ++ written ∷ []) }
         requires walk { IsWalkOf self.old.waveform self.old.walk }
         ensures waveform { OnOk result (self.new.waveform ≡ and_one self.old.waveform written) }
         ensures walk { OnOk result (IsWalkOf self.new.waveform self.new.walk) }
@@ -356,6 +358,7 @@ impl<'a> Parts<'a> {
     fn push_line(&mut self, written: Written, line: Line) -> Result<(), Memory>
         requires next { HasMore self.old.waveform }
         requires agrees { ValuesAgree (view.job self.old.waveform) (self.old.waveform.written ++ written ∷ []) }
+        requires copies { CopiesAgree (view.job self.old.waveform) (self.old.waveform.written ++ written ∷ []) }
         requires walk { IsWalkOf self.old.waveform self.old.walk }
         ensures waveform { OnOk result (self.new.waveform ≡ and_one self.old.waveform written) }
         ensures walk { OnOk result (IsWalkOf self.new.waveform self.new.walk) }

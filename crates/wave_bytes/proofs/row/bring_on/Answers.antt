@@ -1,5 +1,5 @@
 -- The row is brought on past a change.
-use Rattle.std.proofs.Common.{◌≡◌, ◌+◌, ◌-◌, ◌*◌, ◌<◌, ◌≤◌, ◌∙◌, length, slice_set, ap, sym, subst, arith}
+use Rattle.std.proofs.Common.{◌≡◌, ◌+◌, ◌-◌, ◌*◌, ◌∙◌, length, slice_set, ap, sym, subst, arith}
 use Rattle.wave_bytes.specs.Anew.{anew_number, nth_anew}
 use Rattle.wave_bytes.specs.Changed.{IsRowUpTo, anew_behind, anew_position}
 use Rattle.wave_bytes.specs.View.{job}

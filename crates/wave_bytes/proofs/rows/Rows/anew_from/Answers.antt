@@ -23,14 +23,15 @@ returns-clause-again c =
     let w = c.self.inside.width in
     let s = c.self.inside.steps in
     let n = c.self.inside.count in
+    let rs = c.self.inside.roots.items in
     let ts = c.self.inside.tracks.items in
-    let long = bytes_long w ts n in
+    let long = bytes_long w rs ts n in
     let within = c.noted_or.ensures.within in
-    let up : c.args.end ≤ length (bytes_in w ts n) =
+    let up : c.args.end ≤ length (bytes_in w rs ts n) =
     subst (λ (v : RowsView). c.args.end ≤ length v.bytes) (sym c.self.view_is) c.requires.end in
     subst (λ (v : RowsView). AreAgain v c.args.number c.noted_or.result) c.self.view_is
-    (again_between w s n c.args.number c.count_below-count.result c.noted_or.result c.self.inside.front ts
-    c.self.inside.log.items c.self.invariant.rows c.self.invariant.noted (omega (arith, long, within, up))
+    (again_between w s n c.args.number c.count_below-count.result c.noted_or.result rs ts
+    c.self.inside.log.items c.self.invariant.noted (omega (arith, long, within, up))
     (rw c.as_slice.ensures.value at c.count_below-count.ensures.last)
     (rw c.as_slice.ensures.value at c.count_below-count.ensures.within)
     (rw c.as_slice-2.ensures.value at c.noted_or.ensures.here))

@@ -7,4 +7,4 @@ use Rattle.wave_bytes.proofs.rows.Rows.count.Goals as goal
 pub returns : goal.returns
 returns c =
     subst (λ (v : RowsView). c.self.inside.count ≡ length v.bytes) c.self.view_is
-    (sym (bytes_long c.self.inside.width c.self.inside.tracks.items c.self.inside.count))
+    (sym (bytes_long c.self.inside.width c.self.inside.roots.items c.self.inside.tracks.items c.self.inside.count))

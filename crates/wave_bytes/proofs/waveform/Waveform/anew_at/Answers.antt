@@ -1,5 +1,5 @@
 -- They are those of the rows.
-use Rattle.std.proofs.Common.{◌≡◌, ◌+◌, ◌*◌, ◌≤◌, ◌∙◌, length, map, ap, sym, subst, arith}
+use Rattle.std.proofs.Common.{◌≡◌, ◌+◌, ◌*◌, ◌≤◌, length, map, sym, subst, arith}
 use Rattle.std.proofs.lemmas.List.{length-map}
 use Rattle.design_circuit.specs.Circuit.{job_in}
 use Rattle.wave_bytes.specs.Byte.{written_of_byte}

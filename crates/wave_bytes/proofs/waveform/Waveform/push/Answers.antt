@@ -3,6 +3,7 @@ use Rattle.std.proofs.Common.{◌≡◌, ◌+◌, ◌<◌, ◌∙◌, ◌++◌, 
 use Rattle.std.proofs.lemmas.List.{length-map}
 use Rattle.design_circuit.specs.Circuit.{job_in}
 use Rattle.design_circuit.specs.Job.{places_of}
+use Rattle.law_quiet.specs.Copies.{CopiesAgree}
 use Rattle.wave_bytes.specs.Byte.{written_of_byte}
 use Rattle.wave_bytes.specs.Front.{StandsAt}
 use Rattle.wave_bytes.specs.Kept.{ValuesAgree}
@@ -26,6 +27,11 @@ pub push_place-requires-clause-agrees : goal.push_place-requires-clause-agrees
 push_place-requires-clause-agrees c =
     subst (λ (v : WaveformView). ValuesAgree (job v) (v.written ++ c.args.written ∷ [])) (sym c.self.view_is)
     c.requires.agrees
+
+pub push_place-requires-clause-copies : goal.push_place-requires-clause-copies
+push_place-requires-clause-copies c =
+    subst (λ (v : WaveformView). CopiesAgree (job v) (v.written ++ c.args.written ∷ [])) (sym c.self.view_is)
+    c.requires.copies
 
 pub keep_behind-all_keep-requires-clause-before : goal.keep_behind-all_keep-requires-clause-before
 keep_behind-all_keep-requires-clause-before c =

@@ -2,6 +2,7 @@
 use Rattle.std.proofs.Common.{◌≡◌, ◌+◌, ◌∙◌, length, map, ap, sym, subst, arith}
 use Rattle.std.proofs.lemmas.List.{length-map}
 use Rattle.design_circuit.specs.Circuit.{job_in}
+use Rattle.law_quiet.specs.Copies.{CopiesAgree}
 use Rattle.wave_bytes.specs.Byte.{written_of_byte}
 use Rattle.wave_bytes.specs.Front.{StandsAt}
 use Rattle.wave_bytes.specs.Repeat.{AreSteadyFrom, IsStretch}
@@ -9,12 +10,29 @@ use Rattle.std.specs.Bool.{OnTrue}
 use Rattle.wave_bytes.specs.Kept.{StepKeeps, ValuesAgree}
 use Rattle.law_quiet.specs.Runs.{repeated}
 use Rattle.wave_bytes.specs.View.{WaveformView, and_repeated, job, waveform_of}
+use Rattle.wave_bytes.proofs.CopiedBytes.{are_again}
 use Rattle.wave_bytes.proofs.RepeatedBytes.{keep_after, repeated_kept, repeated_long, repeated_view}
 use Rattle.wave_bytes.proofs.RowLaws.{again_repeated, row_stretch, rows_again}
 use Rattle.wave_bytes.proofs.waveform.Waveform.repeat.Goals as goal
 
-pub repeat-requires : goal.repeat-requires
-repeat-requires c =
+pub repeat-requires-clause-copied : goal.repeat-requires-clause-copied
+repeat-requires-clause-copied c =
+    let j = job_in c.self.inside.circuit in
+    let rows = c.self.inside.rows in
+    are_again j c.self.inside.circuit.fits.fits_job rows c.self.invariant.rows c.args.many
+    (subst (λ n. IsStretch j n c.args.many) (length-map rows.bytes written_of_byte)
+    (subst (λ (v : WaveformView). IsStretch (job v) (length v.written) c.args.many) (sym c.self.view_is)
+    c.requires.stretch))
+    c.self.invariant.kept.told
+    (subst (λ (v : WaveformView). ValuesAgree (job v) (repeated (job v) v.written c.args.many)) (sym c.self.view_is)
+    c.requires.agrees)
+    (subst (λ (v : WaveformView). AreSteadyFrom (job v) (repeated (job v) v.written c.args.many) (length v.written))
+    (sym c.self.view_is) c.requires.steady)
+    (subst (λ (v : WaveformView). CopiesAgree (job v) (repeated (job v) v.written c.args.many)) (sym c.self.view_is)
+    c.requires.copies)
+
+pub repeat-requires-clause-stretch : goal.repeat-requires-clause-stretch
+repeat-requires-clause-stretch c =
     row_stretch (job_in c.self.inside.circuit) c.self.inside.rows c.args.many c.self.invariant.rows
     (subst (λ n. IsStretch (job_in c.self.inside.circuit) n c.args.many)
     (length-map c.self.inside.rows.bytes written_of_byte)

@@ -3,11 +3,12 @@ use Rattle.std.proofs.Common.{List, ◌++◌, ◌∷◌, [], ap, sym, subst, app
 use Rattle.law_model.specs.declared.line.Line.{Line as ALine}
 use Rattle.wave_proved.specs.Contents.{Contents, IsWave, contents_of, job}
 use Rattle.wave_proved.specs.Token.{HasNext}
+use Rattle.wave_due.specs.OfQuiet.{CopiesAgree}
 use Rattle.wave_due.specs.OfWaveBytes.{ValuesAgree, HasMore, and_one}
 use Rattle.wave_due.specs.OfWaveBytes as view
 use Rattle.wave_due.specs.Walk.{IsWalkOf}
 use Rattle.wave_proved.proofs.WalkedWaves.{wave_pushed}
-use Rattle.wave_proved.proofs.WaveGrowth.{wave_agrees, wave_grown}
+use Rattle.wave_proved.proofs.WaveGrowth.{wave_agrees, wave_copies, wave_grown}
 use Rattle.wave_proved.proofs.wave.Wave.append.Goals as goal
 
 pub push-requires-clause-next : goal.push-requires-clause-next
@@ -26,6 +27,14 @@ push-requires-clause-agrees c =
     (sym c.deref_mut.ensures.value)
     (subst (λ (v : Contents). ValuesAgree (job v) (v.written ++ x ∷ [])) (sym c.self.view_is)
     (wave_agrees c.args.self x [] (subst IsWave c.self.view_is c.self.invariant.wave) c.requires.next))
+
+pub push-requires-clause-copies : goal.push-requires-clause-copies
+push-requires-clause-copies c =
+    let x = c.args.written in
+    subst (λ parts. CopiesAgree (view.job parts.waveform) (parts.waveform.written ++ x ∷ []))
+    (sym c.deref_mut.ensures.value)
+    (subst (λ (v : Contents). CopiesAgree (job v) (v.written ++ x ∷ [])) (sym c.self.view_is)
+    (wave_copies c.args.self x [] (subst IsWave c.self.view_is c.self.invariant.wave) c.requires.next))
 
 pub invariant_of-self : goal.invariant_of-self
 invariant_of-self c =

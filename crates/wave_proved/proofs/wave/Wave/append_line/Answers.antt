@@ -1,12 +1,13 @@
 -- The wave stays a wave: its next place is a Line place, whose line holds.
 use Rattle.std.proofs.Common.{◌++◌, ◌∷◌, [], sym, subst}
 use Rattle.wave_proved.specs.Contents.{Contents, IsWave, contents_of, job}
+use Rattle.wave_due.specs.OfQuiet.{CopiesAgree}
 use Rattle.wave_due.specs.OfWaveBytes.{ValuesAgree, and_one}
 use Rattle.wave_due.specs.OfWaveBytes as view
 use Rattle.wave_due.specs.Walk.{IsWalkOf}
 use Rattle.wave_proved.proofs.LineGrowth.{line_next}
 use Rattle.wave_proved.proofs.WalkedWaves.{wave_pushed}
-use Rattle.wave_proved.proofs.WaveGrowth.{wave_agrees, wave_grown}
+use Rattle.wave_proved.proofs.WaveGrowth.{wave_agrees, wave_copies, wave_grown}
 use Rattle.wave_proved.proofs.wave.Wave.append_line.Goals as goal
 
 pub push_line-requires-clause-agrees : goal.push_line-requires-clause-agrees
@@ -18,6 +19,17 @@ push_line-requires-clause-agrees c =
     (sym c.deref_mut.ensures.value)
     (subst (λ (v : Contents). ValuesAgree (job v) (v.written ++ x ∷ [])) (sym c.self.view_is)
     (wave_agrees c.args.self x (line ∷ []) right (line_next c.args.self x line
+    right c.requires.class c.requires.line c.requires.written c.requires.agrees)))
+
+pub push_line-requires-clause-copies : goal.push_line-requires-clause-copies
+push_line-requires-clause-copies c =
+    let x = c.args.written in
+    let line = c.args.line in
+    let right = subst IsWave c.self.view_is c.self.invariant.wave in
+    subst (λ parts. CopiesAgree (view.job parts.waveform) (parts.waveform.written ++ x ∷ []))
+    (sym c.deref_mut.ensures.value)
+    (subst (λ (v : Contents). CopiesAgree (job v) (v.written ++ x ∷ [])) (sym c.self.view_is)
+    (wave_copies c.args.self x (line ∷ []) right (line_next c.args.self x line
     right c.requires.class c.requires.line c.requires.written c.requires.agrees)))
 
 pub push_line-requires-clause-walk : goal.push_line-requires-clause-walk

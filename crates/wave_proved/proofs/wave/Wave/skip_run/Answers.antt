@@ -2,11 +2,12 @@
 use Rattle.std.proofs.Common.{◌≡◌, ℕ, ◌∙◌, ◌<◌, length, ap, sym, subst, arith}
 use Rattle.std.proofs.lemmas.Bool.{ltb-true}
 use Rattle.wave_due.specs.OfQuiet.{repeated}
-use Rattle.wave_due.proofs.LawsOfQuiet.{repeated_long}
+use Rattle.wave_due.proofs.LawsOfQuiet.{handed_law, repeated_long}
 use Rattle.wave_proved.specs.Advance.{GoesOn}
 use Rattle.wave_proved.specs.Contents.{Contents, IsWave, contents_of}
 use Rattle.wave_proved.specs.Token.{HasNext}
 use Rattle.wave_due.specs.OfWaveBytes as view
+use Rattle.wave_due.specs.OfWaveBytes.{job as job_there}
 use Rattle.wave_due.specs.OfWaveBytes.{HasMore, WaveformView, and_repeated}
 use Rattle.wave_due.specs.Walk.{IsHeldFor, IsRunOf, IsWalkOf}
 use Rattle.wave_proved.proofs.GoingRuns.{goes_pushed, run_goes, run_wave}
@@ -26,6 +27,9 @@ pub skip-many-requires-clause-held : goal.skip-many-requires-clause-held
 skip-many-requires-clause-held c =
     subst (λ parts. IsHeldFor parts.waveform parts.walk) (sym c.deref_mut.ensures.value) (record {
       fits = c.self.invariant.wave.fits.fits_job;
+      copies = handed_law (job_there c.self.inside.parts.value.waveform)
+          c.self.inside.parts.value.walk.replayed.history c.self.invariant.wave.fits.fits_job
+          c.self.invariant.wave.handed;
       limits = c.self.inside.parts.value.limits;
       lines = c.self.inside.parts.value.lines.items;
       holds = c.self.invariant.wave.holds;
