@@ -26,7 +26,7 @@ pub fn do_tell(alloc: Global, wave: &Wave<'_>, lanes: &Lanes, body: &Body) -> Re
     }
 }
 
-/// The same of two fillings.
+/// The same of two fillings. Where no two lanes differ there, none of them is looked for.
 fn are_told(
     alloc: Global,
     wave: &Wave<'_>,
@@ -38,7 +38,7 @@ fn are_told(
     requires looked { IsLookedAt wave.now lanes.now }
     ensures { IfOk result (λ told. IsTrue told → HoldsNext wave.now (body.Pair zero.now one.now)) }
 {
-    if !are_fillings(&wave.circuit(), zero, one) {
+    if lanes.pair(wave).is_none() || !are_fillings(&wave.circuit(), zero, one) {
         return Ok(false);
     }
     Ok(

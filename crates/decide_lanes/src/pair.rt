@@ -129,16 +129,10 @@ fn lane_that_lists(
 {
     match filling {
         [] => Ok(Some(EMPTY)),
-        [..] => {
-            let lanes = lanes_over(filling);
-            match lanes.first() {
-                None => Ok(None),
-                Some(some) => {
-                    let lane = least_lane(circuit, list, lanes, some);
-                    lane_if(alloc, circuit, list, filling, lane)
-                }
-            }
-        }
+        [..] => match lanes_just(circuit, list, filling).first() {
+            None => Ok(None),
+            Some(lane) => lane_if(alloc, circuit, list, filling, lane),
+        },
     }
 }
 
@@ -162,11 +156,19 @@ fn lane_if(
     }
 }
 
-/// The lanes whose fillings list all these places. No contract says so: what is found among them is looked at.
-fn lanes_over(filling: &[Place]) -> LaneBits {
+/// The lanes whose fillings list just these places of some. No contract says so: what is found among them is looked at.
+fn lanes_just(circuit: &Circuit<'_>, list: &[u32], filling: &[Place]) -> LaneBits
+    requires within { AllByRecursion (λ k. k < places_of (job_in circuit.now)) list.now }
+{
     let mut lanes = LaneBits::zeros().turned(true);
-    'places: for place in filling {
-        lanes = lanes.and(given(*place));
+    let mut next = 0;
+    'places: for index in 0..list.len() {
+        let place = circuit.place_of(list[index] as usize);
+        let is_listed = next < filling.len() && filling[next] == place;
+        lanes = lanes.and(given(place).turned(!is_listed));
+        if is_listed {
+            next += 1;
+        }
     }
     lanes
 }
