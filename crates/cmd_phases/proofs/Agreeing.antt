@@ -15,7 +15,7 @@ use Rattle.cmd_phases.specs.declared.parts.Parts.{Parts}
 module _ (w : JobValues) (after : Parts → Phases Answer Refused) {told : Bool} {old mid : View} where
   -- It agrees, and then comes the rest.
   pub agreed_prepared : {new : View} {agreed : Agreed} {result : Result Ready (Refusal Refused)} → Prepared told (agreed_phases w) agreed_job old mid (Ok agreed)
-      → Prepared told (after agreed.job) answer_of mid new result → Prepared told (agreed_then w after) answer_of old new result
+      → Prepared told (after agreed.parts) answer_of mid new result → Prepared told (agreed_then w after) answer_of old new result
   agreed_prepared {new} {agreed} {result} read more = prepared_then told (agreed_phases w) after agreed_job answer_of old mid new agreed result read more
 
   -- It is refused, and so is all.

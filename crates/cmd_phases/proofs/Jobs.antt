@@ -3,7 +3,6 @@ use Rattle.std.proofs.Common.{◌≡◌, ◌∙◌, ℕ, ◌+◌, ◌*◌, ◌<�
 use Rattle.std.proofs.lemmas.Nat.{mul-add-lt}
 use Rattle.std.proofs.Math.Nat.{mul-le-mul_right}
 use Rattle.design_circuit.specs.Parts.{PartsFit}
-use Rattle.design_circuit.specs.Design.{FitsDesign}
 use Rattle.design_circuit.specs.Filling.{IsPlace}
 use Rattle.design_circuit.specs.Fits.{Fits, place_at}
 use Rattle.design_circuit.specs.Handed.{IsReplay, shown_of}
@@ -29,9 +28,6 @@ fits_job n r fits =
 
 pub circuit_fits : (n : ANetlist) (r : Recorded) → FitsJob n r → PartsFit n.design n.order r.stim
 circuit_fits n r fits = record { fits_job = fits_job n r fits; fits_stim = fits.recorded.stim }
-
-pub design_fits : (n : ANetlist) (r : Recorded) → FitsJob n r → FitsDesign n.design
-design_fits n r fits = fits.netlist.design
 
 module _ (j : Job) (fits : Fits j) where
   pub place_there : (number : ℕ) → number < places_of j → IsPlace j (place_at j number)

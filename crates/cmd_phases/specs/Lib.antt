@@ -1,6 +1,7 @@
 -- Definitions of what the phases of commands come to, and those of repairs that their clauses cite.
 pub mod Cause
 pub mod Repair
+pub mod Parts
 pub mod Code
 pub mod Certificate
 pub mod Sets

@@ -26,6 +26,7 @@ use Rattle.cmd_phases.specs.declared.cause.Refused.TheVariants.{Optimistic}
 use Rattle.cmd_phases.specs.declared.cause.Refused.TheVariants.{Proof, Start}
 use Rattle.cmd_phases.specs.declared.cause.Uncertified.{Uncertified}
 use Rattle.cmd_phases.specs.declared.parts.Agreed.{Agreed}
+use Rattle.cmd_phases.specs.declared.parts.Fitted.{Fitted}
 use Rattle.cmd_phases.specs.declared.parts.Parts.{Parts}
 
 -- The causes that the phases find.
@@ -92,6 +93,9 @@ job_phases w = do
   r ← recording_phases w n
   Phases.Finds (job_parts w n r)
 
+abbrev pub fitted_job : Fitted → Parts
+fitted_job job = job.parts
+
 -- A job whose recording agrees with its replay.
 abbrev pub agreed_phases : JobValues → Phases Parts Refused
 agreed_phases w = do
@@ -100,7 +104,7 @@ agreed_phases w = do
   Phases.Finds job
 
 abbrev pub agreed_job : Agreed → Parts
-agreed_job agreed = agreed.job
+agreed_job agreed = agreed.parts
 
 -- And then what a command comes to.
 abbrev pub agreed_then : {A : Type 0} → JobValues → (Parts → Phases A Refused) → Phases A Refused

@@ -1,18 +1,15 @@
 //! The forces that a code's text says.
 
 ghost use Rattle.std.specs.Prelude.{◌≡◌, IfOk};
-ghost use Rattle.design_circuit.specs.Parts.{PartsFit};
-ghost use Rattle.design_circuit.specs.Design.{FitsDesign};
 ghost use Rattle.design_circuit.specs.Force.{AreEvents};
 ghost use Rattle.cmd_job.specs.Compared.{job_for};
 ghost use Rattle.base_run.specs.Prepared.{Judged, Prepared};
 ghost use Rattle.cmd_words.specs.Words.{job_values};
 ghost use Rattle.cmd_phases.specs.Code.{CodeComes, code_in};
 ghost use Rattle.cmd_phases.specs.Phases.{code_cause, code_phases, itself};
-ghost use Rattle.cmd_phases.specs.Repair.{FitsParts};
 
 use crate::cause::Refused;
-use crate::parts::Parts;
+use crate::parts::Fitted;
 use crate::pieces::names_of;
 use base_run::{Refusal, read_input};
 use base_shelf::Shelf;
@@ -30,12 +27,11 @@ pub fn forces_of<S: Shelf>(
     shelf: &mut S,
     name: &str,
     words: &JobWords<'_>,
-    job: &Parts,
+    job: &Fitted,
 ) -> Result<Forces, Refusal<Refused>>
-    requires { FitsParts job.now }
-    ensures prepared { Prepared S.told (code_phases name.now (job_values words.now) job.now) itself
+    ensures prepared { Prepared S.told (code_phases name.now (job_values words.now) job.now.parts) itself
         (S.view shelf.old) (S.view shelf.new) result }
-    ensures events { IfOk result (AreEvents (job_for job.now.netlist job.now.recorded)) }
+    ensures events { IfOk result (AreEvents (job_for job.now.parts.netlist job.now.parts.recorded)) }
 {
     let scope = names_of(alloc, words.scope)?;
     let text = read_input(alloc, shelf, name, TEXT_BYTES, Refused::LongCode)?;
@@ -43,21 +39,20 @@ pub fn forces_of<S: Shelf>(
 }
 
 /// The forces that a text says.
+#[tactic(auto, using(crate::proofs::Jobs::circuit_fits))]
 fn forces_in(
     alloc: Global,
-    job: &Parts,
+    job: &Fitted,
     text: &[u8],
     scope: &[Bytes],
 ) -> Result<Forces, Refusal<Refused>>
-    requires parts { PartsFit job.now.netlist.design job.now.netlist.order job.now.recorded.stim }
-    requires names { FitsDesign job.now.netlist.design }
-    ensures judged { Judged (CodeComes (code_in job.now text.now scope.now)) code_cause itself result }
-    ensures events { IfOk result (AreEvents (job_for job.now.netlist job.now.recorded)) }
+    ensures judged { Judged (CodeComes (code_in job.now.parts text.now scope.now)) code_cause itself result }
+    ensures events { IfOk result (AreEvents (job_for job.now.parts.netlist job.now.parts.recorded)) }
 {
     let circuit = Circuit {
-        design: &job.netlist.design,
-        order: &job.netlist.order,
-        stim: &job.recorded.stim,
+        design: &job.parts.netlist.design,
+        order: &job.parts.netlist.order,
+        stim: &job.parts.recorded.stim,
     };
     match read_code(alloc, text, &circuit, scope) {
         Ok(forces) => Ok(forces),

@@ -1,20 +1,18 @@
 //! The netlist and the recording that the words of a command name.
 
 ghost use Rattle.std.specs.Prelude.{◌≡◌, IfOk};
-ghost use Rattle.design_circuit.specs.Handed.{IsReplay};
-ghost use Rattle.cmd_job.specs.Compared.{job_for};
 ghost use Rattle.cmd_job.specs.Netlist.{FitsNetlist};
 ghost use Rattle.cmd_job.specs.Recorded.{FitsRecorded, job_netlist};
 ghost use Rattle.base_run.specs.Prepared.{Prepared};
 ghost use Rattle.cmd_words.specs.Words.{job_values};
-ghost use Rattle.cmd_phases.specs.Phases.{agreed_job, agreed_phases, itself, job_phases, netlist_phases};
-ghost use Rattle.cmd_phases.specs.Phases.{recording_phases};
-ghost use Rattle.cmd_phases.specs.Repair.{FitsParts, levels_of, register_rules_of, rule_of, rules_of};
+ghost use Rattle.cmd_phases.specs.Phases.{agreed_job, agreed_phases, fitted_job, itself, job_phases};
+ghost use Rattle.cmd_phases.specs.Phases.{netlist_phases, recording_phases};
+ghost use Rattle.cmd_phases.specs.Repair.{levels_of, register_rules_of, rule_of, rules_of};
 ghost use Rattle.cmd_phases.specs.Repair.{undriven_rule_of};
 
 use crate::cause::Refused;
 use crate::judged::{compared, netlist_in, recorded_in};
-use crate::parts::{Agreed, Parts};
+use crate::parts::{Agreed, Fitted, Parts};
 use crate::pieces::names_of;
 use base_run::{Refusal, read_input, read_inputs};
 use base_shelf::Shelf;
@@ -36,14 +34,15 @@ pub fn agreed_of<S: Shelf>(
     shelf: &mut S,
     words: &JobWords<'_>,
 ) -> Result<Agreed, Refusal<Refused>>
-    ensures prepared { Prepared S.told (agreed_phases (job_values words.now)) agreed_job
+    ensures { Prepared S.told (agreed_phases (job_values words.now)) agreed_job
         (S.view shelf.old) (S.view shelf.new) result }
-    ensures fits { IfOk result (λ agreed. FitsParts agreed.job) }
-    ensures replay { IfOk result (λ agreed. IsReplay (job_for agreed.job.netlist agreed.job.recorded) agreed.history) }
 {
     let job = job_of(alloc, shelf, words)?;
-    match compared(alloc, &job.netlist, &job.recorded) {
-        Ok(history) => Ok(Agreed { job, history }),
+    match compared(alloc, &job) {
+        Ok(history) => Ok(Agreed {
+            parts: job.parts,
+            history,
+        }),
         Err(refusal) => Err(refusal),
     }
 }
@@ -53,14 +52,15 @@ pub fn job_of<S: Shelf>(
     alloc: Global,
     shelf: &mut S,
     words: &JobWords<'_>,
-) -> Result<Parts, Refusal<Refused>>
-    ensures prepared { Prepared S.told (job_phases (job_values words.now)) itself
+) -> Result<Fitted, Refusal<Refused>>
+    ensures { Prepared S.told (job_phases (job_values words.now)) fitted_job
         (S.view shelf.old) (S.view shelf.new) result }
-    ensures fits { IfOk result FitsParts }
 {
     let mut netlist = netlist_of(alloc, shelf, words)?;
     let recorded = recorded_of(alloc, shelf, words, &mut netlist)?;
-    Ok(Parts { netlist, recorded })
+    Ok(Fitted {
+        parts: Parts { netlist, recorded },
+    })
 }
 
 /// The netlist that the words name.

@@ -10,6 +10,7 @@ ghost use Rattle.cmd_phases.specs.Repair.{LengthComes, CompareComes};
 ghost use Rattle.cmd_phases.specs.Phases.{compare_cause, itself, netlist_cause, nothing_in, recording_cause};
 
 use crate::cause::Refused;
+use crate::parts::Fitted;
 use base_run::Refusal;
 use cmd_job::{
     CompareErr, Netlist, NetlistErr, Recorded, RecordingErr, Rules, Settings, read_netlist,
@@ -80,17 +81,12 @@ pub fn recorded_in(
 }
 
 /// The replay of a job whose recording agrees with it.
-pub fn compared(
-    alloc: Global,
-    netlist: &Netlist,
-    recorded: &Recorded,
-) -> Result<History, Refusal<Refused>>
-    requires netlist { FitsNetlist netlist.now }
-    requires recorded { FitsRecorded netlist.now.design recorded.now }
-    ensures judged { Judged (CompareComes netlist.now recorded.now) compare_cause nothing_in result }
-    ensures replay { IfOk result (IsReplay (job_for netlist.now recorded.now)) }
+pub fn compared(alloc: Global, job: &Fitted) -> Result<History, Refusal<Refused>>
+    ensures judged { let parts = job.now.parts in
+        Judged (CompareComes parts.netlist parts.recorded) compare_cause nothing_in result }
+    ensures replay { IfOk result (IsReplay (job_for job.now.parts.netlist job.now.parts.recorded)) }
 {
-    match replay_and_compare(alloc, netlist, recorded) {
+    match replay_and_compare(alloc, &job.parts.netlist, &job.parts.recorded) {
         Ok(history) => Ok(history),
         Err(CompareErr::Refused(cause)) => Err(Refusal::Text {
             cause: Refused::Compare(cause),

@@ -28,7 +28,7 @@ pub use forced::{TEXT_BYTES, forces_of};
 pub use forms::{conditions_for, form_of, without_turns};
 pub use job::{NETLIST_BYTES, RECORDING_BYTES, agreed_of, job_of};
 pub use judged::{compared, netlist_in, recorded_in, short_in};
-pub use parts::{Agreed, Parts};
+pub use parts::{Agreed, Fitted, Parts};
 pub use pieces::{names_of, pieces_of};
 pub use report_listing::{Condition, audit_text, blame_text, fix_text, put_conditions};
 pub use sets::{replay_of, sets_of, started};

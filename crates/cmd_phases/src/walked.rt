@@ -4,19 +4,19 @@ ghost use Rattle.std.specs.Prelude.{◌≡◌, IfErr, IfOk};
 ghost use Rattle.design_circuit.specs.Parts.{PartsFit};
 ghost use Rattle.design_circuit.specs.Handed.{IsHandedIn, IsReplay};
 ghost use Rattle.design_circuit.specs.Job.{job_of};
-ghost use Rattle.cmd_job.specs.Compared.{job_for};
 ghost use Rattle.decide_repair.specs.Step.{RefusedStep};
 ghost use Rattle.decide_repair.specs.Walk.{left_of};
 ghost use Rattle.wave_proved.specs.Contents.{AreLimits};
 ghost use Rattle.base_run.specs.Prepared.{IsJudgedBy};
 ghost use Rattle.cmd_phases.specs.Phases.{walk_cause};
-ghost use Rattle.cmd_phases.specs.Repair.{FitsJob, IsRepairedBy, ReplayWalkComes, WalkComes, WaveComes};
+ghost use Rattle.cmd_phases.specs.Repair.{IsRepairedBy, ReplayWalkComes, WalkComes, WaveComes};
 
 use crate::cause::Refused;
 use crate::objection::objection_of;
+use crate::parts::Agreed;
 use base_run::Refusal;
 use base_shelf::Sink;
-use cmd_job::{Netlist, Recorded};
+use cmd_job::Netlist;
 use decide_repair::{RepairErr, Walk};
 use design_circuit::{Circuit, History, Stim};
 use law_model::Limits;
@@ -27,22 +27,23 @@ use wave_proved::Wave;
 const PIECE: usize = 64;
 
 /// The finished wave of a job. The sink is told how far the walk has come.
+#[tactic(auto, using(crate::proofs::Jobs::circuit_fits))]
 pub fn wave_of<'b, O: Sink>(
     alloc: Global,
-    netlist: &'b Netlist,
-    recorded: &'b Recorded,
-    history: &'b History,
+    agreed: &'b Agreed,
     limits: Limits,
     out: &mut O,
 ) -> Result<Wave<'b>, Refusal<Refused>>
-    requires fits { FitsJob netlist.now recorded.now }
-    requires replay { IsReplay (job_for netlist.now recorded.now) history.now }
     requires limits { AreLimits limits }
-    ensures repaired { IfOk result (IsRepairedBy limits netlist.now recorded.now.stim history.now) }
-    ensures refused { IfErr result (IsJudgedBy (WalkComes limits netlist.now recorded.now) walk_cause) }
+    ensures repaired { let parts = agreed.now.parts in
+        IfOk result (IsRepairedBy limits parts.netlist parts.recorded.stim agreed.now.history) }
+    ensures refused { let parts = agreed.now.parts in
+        IfErr result (IsJudgedBy (WalkComes limits parts.netlist parts.recorded) walk_cause) }
     ensures out { O.view out.new ≡ O.view out.old }
 {
-    wave_under(alloc, netlist, &recorded.stim, history, limits, out)
+    let netlist = &agreed.parts.netlist;
+    let stim = &agreed.parts.recorded.stim;
+    wave_under(alloc, netlist, stim, &agreed.history, limits, out)
 }
 
 /// The finished wave of a design under a stimulus, over its replay or a blank history. The sink hears how far it came.

@@ -2,21 +2,18 @@
 
 ghost use Rattle.std.specs.Prelude.{◌≡◌, [], IfOk};
 ghost use Rattle.std.specs.List.{AllByRecursion};
-ghost use Rattle.design_circuit.specs.Handed.{IsReplay};
-ghost use Rattle.cmd_job.specs.Compared.{job_for};
 ghost use Rattle.cmd_phases.specs.OfListing.{IsSomeCondition};
 ghost use Rattle.base_run.specs.Prepared.{Prepared, PreparedAlone, answer_of};
 ghost use Rattle.cmd_program.specs.Check.{certified_phases, check_answer, check_values, checked_phases};
 ghost use Rattle.cmd_phases.specs.Certificate.{check_shows};
-ghost use Rattle.cmd_phases.specs.Repair.{FitsParts, IsWaveOf};
+ghost use Rattle.cmd_phases.specs.Repair.{IsWaveOf};
 
 use crate::commands::check::Check;
 use crate::report::report_with;
 use base_lists::Memory;
 use base_run::{Ready, Refusal, Report};
 use base_shelf::Shelf;
-use cmd_phases::{Cert, Condition, Parts, Refused, certificate_of, certified_wave};
-use design_circuit::History;
+use cmd_phases::{Agreed, Cert, Condition, Refused, certificate_of, certified_wave};
 use replay_forces::forces_of;
 use std::alloc::Global;
 use wave_proved::Wave;
@@ -26,51 +23,44 @@ pub fn check_agreed<'a, S: Shelf>(
     alloc: Global,
     shelf: &mut S,
     words: &Check<'a>,
-    job: &Parts,
-    history: &History,
+    agreed: &Agreed,
 ) -> Result<Ready<'a>, Refusal<Refused>>
-    requires fits { FitsParts job.now }
-    requires replay { IsReplay (job_for job.now.netlist job.now.recorded) history.now }
-    ensures { Prepared S.told (certified_phases (check_values words.now) job.now) answer_of
+    ensures { Prepared S.told (certified_phases (check_values words.now) agreed.now.parts) answer_of
         (S.view shelf.old) (S.view shelf.new) result }
 {
     let cert = certificate_of(alloc, shelf, words.cert)?;
-    checked(alloc, words, job, history, cert)
+    checked(alloc, words, agreed, cert)
 }
 
 /// What the words ask of a certificate of a job that agrees.
 fn checked<'a>(
     alloc: Global,
     words: &Check<'a>,
-    job: &Parts,
-    history: &History,
+    agreed: &Agreed,
     cert: Cert,
 ) -> Result<Ready<'a>, Refusal<Refused>>
-    requires fits { FitsParts job.now }
-    requires replay { IsReplay (job_for job.now.netlist job.now.recorded) history.now }
-    ensures { PreparedAlone (checked_phases (check_values words.now) job.now cert) answer_of result }
+    ensures { PreparedAlone (checked_phases (check_values words.now) agreed.now.parts cert) answer_of result }
 {
-    let checked = certified_wave(alloc, job, history, cert, words.limits)?;
+    let checked = certified_wave(alloc, agreed, cert, words.limits)?;
     let conditions = checked.conditions.as_slice();
-    Ok(report_of(alloc, words, job, &checked.wave, conditions)?)
+    Ok(report_of(alloc, words, agreed, &checked.wave, conditions)?)
 }
 
 /// The report of a finished wave of a job, with the lines of its conditions.
 fn report_of<'a>(
     alloc: Global,
     words: &Check<'a>,
-    job: &Parts,
+    agreed: &Agreed,
     wave: &Wave<'_>,
     conditions: &[Condition],
 ) -> Result<Ready<'a>, Memory>
-    requires fits { FitsParts job.now }
-    requires wave { IsWaveOf job.now.netlist job.now.recorded wave.now }
+    requires wave { IsWaveOf agreed.now.parts.netlist agreed.now.parts.recorded wave.now }
     requires conditions { AllByRecursion (IsSomeCondition wave.now) conditions.now }
     ensures { IfOk result (λ ready. answer_of ready
-        ≡ check_answer (check_values words.now) job.now (check_shows wave.now conditions.now)) }
+        ≡ check_answer (check_values words.now) agreed.now.parts (check_shows wave.now conditions.now)) }
 {
     let forces = forces_of(alloc, wave)?;
-    let binding = &job.recorded.binding;
+    let binding = &agreed.parts.recorded.binding;
     let report = report_with(alloc, wave, binding, words.lines, &forces, conditions)?;
     Ok(ready_with(alloc, Report::new(alloc, report)?))
 }

@@ -1,13 +1,11 @@
 //! A job repaired twice, under the recorded starts and under set ones, and what that makes known.
 
 ghost use Rattle.std.specs.Prelude.{◌≡◌, IfOk};
-ghost use Rattle.design_circuit.specs.Handed.{IsReplay};
 ghost use Rattle.report_fix.specs.Gained.{AreBeside};
-ghost use Rattle.cmd_job.specs.Compared.{job_for};
 ghost use Rattle.recording_binding.specs.Binding.{FitsBinding};
 ghost use Rattle.base_run.specs.Prepared.{PreparedAlone, answer_of};
 ghost use Rattle.cmd_program.specs.Fix.{fix_values, fix_answer, set_phases, walk_fixed, walk_set};
-ghost use Rattle.cmd_phases.specs.Repair.{FitsParts, IsRepairedBy};
+ghost use Rattle.cmd_phases.specs.Repair.{IsRepairedBy};
 ghost use Rattle.cmd_program.specs.Restarts.{IsRestarted};
 
 use crate::checked::ready_with;
@@ -16,8 +14,7 @@ use crate::restarted::Restarted;
 use base_lists::Memory;
 use base_run::{Ready, Refusal, Report};
 use base_shelf::Sink;
-use cmd_phases::{Parts, Refused, fix_text, replay_of, replay_wave, sets_of, started};
-use design_circuit::History;
+use cmd_phases::{Agreed, Refused, fix_text, replay_of, replay_wave, sets_of, started};
 use std::alloc::Global;
 use wave_proved::Wave;
 
@@ -25,22 +22,19 @@ use wave_proved::Wave;
 pub fn fixed<'a, O: Sink>(
     alloc: Global,
     words: &Fix<'_>,
-    job: &Parts,
-    history: &History,
+    agreed: &Agreed,
     out: &mut O,
 ) -> Result<Ready<'a>, Refusal<Refused>>
-    requires fits { FitsParts job.now }
-    requires replay { IsReplay (job_for job.now.netlist job.now.recorded) history.now }
-    ensures prepared { PreparedAlone (set_phases (fix_values words.now) job.now)
+    ensures prepared { PreparedAlone (set_phases (fix_values words.now) agreed.now.parts)
         answer_of result }
     ensures out { O.view out.new ≡ O.view out.old }
 {
+    let parts = &agreed.parts;
     let sets = sets_of(alloc, words.sets)?;
-    let stim = started(alloc, &job.netlist, &job.recorded.stim, sets.as_slice())?;
+    let stim = started(alloc, &parts.netlist, &parts.recorded.stim, sets.as_slice())?;
     let set = Restarted {
         words: *words,
-        job,
-        history,
+        agreed,
         stim: &stim,
         registers: sets.len(),
     };
@@ -48,19 +42,21 @@ pub fn fixed<'a, O: Sink>(
 }
 
 /// The walk under the recorded starts, and then that under the set ones.
+#[tactic(auto, using(cmd_phases::proofs::Jobs::circuit_fits))]
 fn walked<'a, O: Sink>(
     alloc: Global,
     set: &Restarted<'_>,
     out: &mut O,
 ) -> Result<Ready<'a>, Refusal<Refused>>
     requires set { IsRestarted set.now }
-    ensures prepared { PreparedAlone (walk_fixed (fix_values set.now.words) set.now.job.now.netlist
-        set.now.job.now.recorded set.now.stim.now) answer_of result }
+    ensures prepared { PreparedAlone (walk_fixed (fix_values set.now.words) set.now.agreed.now.parts.netlist
+        set.now.agreed.now.parts.recorded set.now.stim.now) answer_of result }
     ensures out { O.view out.new ≡ O.view out.old }
 {
-    let netlist = &set.job.netlist;
-    let stim = &set.job.recorded.stim;
-    let before = replay_wave(alloc, netlist, stim, set.history, set.words.limits, out)?;
+    let netlist = &set.agreed.parts.netlist;
+    let stim = &set.agreed.parts.recorded.stim;
+    let history = &set.agreed.history;
+    let before = replay_wave(alloc, netlist, stim, history, set.words.limits, out)?;
     walked_set(alloc, set, &before, out)
 }
 
@@ -72,13 +68,13 @@ fn walked_set<'a, O: Sink>(
     out: &mut O,
 ) -> Result<Ready<'a>, Refusal<Refused>>
     requires set { IsRestarted set.now }
-    requires before { IsRepairedBy set.now.words.limits set.now.job.now.netlist set.now.job.now.recorded.stim
-        set.now.history.now before.now }
-    ensures prepared { PreparedAlone (walk_set (fix_values set.now.words) set.now.job.now.netlist
-        set.now.job.now.recorded set.now.stim.now before.now) answer_of result }
+    requires before { IsRepairedBy set.now.words.limits set.now.agreed.now.parts.netlist
+        set.now.agreed.now.parts.recorded.stim set.now.agreed.now.history before.now }
+    ensures prepared { PreparedAlone (walk_set (fix_values set.now.words) set.now.agreed.now.parts.netlist
+        set.now.agreed.now.parts.recorded set.now.stim.now before.now) answer_of result }
     ensures out { O.view out.new ≡ O.view out.old }
 {
-    let netlist = &set.job.netlist;
+    let netlist = &set.agreed.parts.netlist;
     let history = replay_of(alloc, netlist, set.stim)?;
     let after = replay_wave(alloc, netlist, set.stim, &history, set.words.limits, out)?;
     Ok(listed(alloc, set, before, &after)?)
@@ -93,11 +89,11 @@ fn listed<'a>(
 ) -> Result<Ready<'a>, Memory>
     requires set { IsRestarted set.now }
     requires waves { AreBeside before.now after.now }
-    requires binding { FitsBinding before.now.design set.now.job.now.recorded.binding }
+    requires binding { FitsBinding before.now.design set.now.agreed.now.parts.recorded.binding }
     ensures { IfOk result (λ ready. answer_of ready
-        ≡ fix_answer (fix_values set.now.words) set.now.job.now.recorded before.now after.now) }
+        ≡ fix_answer (fix_values set.now.words) set.now.agreed.now.parts.recorded before.now after.now) }
 {
-    let binding = &set.job.recorded.binding;
+    let binding = &set.agreed.parts.recorded.binding;
     let text = fix_text(alloc, set.registers, before, after, binding)?;
     Ok(ready_with(alloc, Report::new(alloc, text)?))
 }

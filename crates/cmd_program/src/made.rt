@@ -1,8 +1,6 @@
 //! A made job, repaired: its texts, and how many of its places have which end.
 
 ghost use Rattle.std.specs.Prelude.{◌≡◌, ◌≤◌, ◌^◌, IfOk, length};
-ghost use Rattle.design_circuit.specs.Handed.{IsReplay};
-ghost use Rattle.cmd_job.specs.Compared.{job_for};
 ghost use Rattle.cmd_job.specs.Netlist.{FitsNetlist};
 ghost use Rattle.cmd_job.specs.Recorded.{FitsRecorded, RecordingComes};
 ghost use Rattle.base_run.specs.Prepared.{Judged, PreparedAlone, answer_of};
@@ -12,7 +10,7 @@ ghost use Rattle.cmd_program.specs.Make.{make_with};
 ghost use Rattle.cmd_program.specs.Make.{netlist_made, recorded_made, recording_made, repaired_made, walk_made};
 ghost use Rattle.cmd_program.specs.Make.{with_recording};
 ghost use Rattle.cmd_phases.specs.Phases.{itself, recording_cause, scope_of};
-ghost use Rattle.cmd_phases.specs.Repair.{FitsParts, rules_of};
+ghost use Rattle.cmd_phases.specs.Repair.{rules_of};
 
 use crate::commands::make::Make;
 use crate::made_texts::MadeTexts;
@@ -22,10 +20,10 @@ use base_shelf::Sink;
 use cmd_job::{Netlist, PLACES, Recorded, Rules};
 use cmd_make::{made_netlist, made_recording};
 use cmd_phases::{
-    NETLIST_BYTES, Parts, RECORDING_BYTES, Refused, compared, names_of, netlist_in, recorded_in,
-    short_in, wave_of,
+    Agreed, Fitted, NETLIST_BYTES, Parts, RECORDING_BYTES, Refused, compared, names_of, netlist_in,
+    recorded_in, short_in, wave_of,
 };
-use design_circuit::{History, Levels, RegisterRules, StartRule};
+use design_circuit::{Levels, RegisterRules, StartRule};
 use law_model::Limits;
 use recording_binding::UndrivenRule;
 use replay_forces::forces_of;
@@ -119,7 +117,10 @@ fn recorded<'a, O: Sink>(
 {
     let mut netlist = netlist;
     let recorded = recorded_of(alloc, texts.recording.as_slice(), &mut netlist)?;
-    repaired(alloc, texts, &Parts { netlist, recorded }, out)
+    let job = Fitted {
+        parts: Parts { netlist, recorded },
+    };
+    repaired(alloc, texts, job, out)
 }
 
 /// What a text records of a netlist, which stays as it is.
@@ -158,37 +159,37 @@ fn recorded_of(
 fn repaired<'a, O: Sink>(
     alloc: Global,
     texts: MadeTexts<'a>,
-    job: &Parts,
+    job: Fitted,
     out: &mut O,
 ) -> Result<Ready<'a>, Refusal<Refused>>
-    requires fits { FitsParts job.now }
     ensures prepared { PreparedAlone (repaired_made (make_values texts.entry.words) texts.entry.recording.items
-        job.now.netlist job.now.recorded) answer_of result }
+        job.parts.netlist job.parts.recorded) answer_of result }
     ensures out { O.view out.new ≡ O.view out.old }
 {
-    let history = compared(alloc, &job.netlist, &job.recorded)?;
-    walked(alloc, texts, job, &history, out)
+    let history = compared(alloc, &job)?;
+    let agreed = Agreed {
+        parts: job.parts,
+        history,
+    };
+    walked(alloc, texts, &agreed, out)
 }
 
 /// The walk over the places of a job that agrees, and what it comes to.
 fn walked<'a, O: Sink>(
     alloc: Global,
     texts: MadeTexts<'a>,
-    job: &Parts,
-    history: &History,
+    agreed: &Agreed,
     out: &mut O,
 ) -> Result<Ready<'a>, Refusal<Refused>>
-    requires fits { FitsParts job.now }
-    requires replay { IsReplay (job_for job.now.netlist job.now.recorded) history.now }
     ensures prepared { PreparedAlone (walk_made (make_values texts.entry.words) texts.entry.recording.items
-        job.now.netlist job.now.recorded) answer_of result }
+        agreed.now.parts.netlist agreed.now.parts.recorded) answer_of result }
     ensures out { O.view out.new ≡ O.view out.old }
 {
     let limits = Limits {
         conflicts: 1_000,
         enumerated: 12,
     };
-    let wave = wave_of(alloc, &job.netlist, &job.recorded, history, limits, out)?;
+    let wave = wave_of(alloc, agreed, limits, out)?;
     Ok(answered(alloc, texts, &wave)?)
 }
 

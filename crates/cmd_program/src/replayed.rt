@@ -7,13 +7,12 @@ ghost use Rattle.cmd_job.specs.Compared.{job_for};
 ghost use Rattle.base_run.specs.Prepared.{Prepared, PreparedAlone, answer_of};
 ghost use Rattle.cmd_program.specs.Replay.{coded_phases, forced_phases, replay_answer, replay_values};
 ghost use Rattle.cmd_phases.specs.Code.{moments_line};
-ghost use Rattle.cmd_phases.specs.Repair.{FitsParts};
 
 use crate::commands::replay::Replay;
 use base_lists::{Memory, put, put_number};
 use base_run::{Output, Ready, Refusal, Report};
 use base_shelf::Shelf;
-use cmd_phases::{Parts, Refused, forces_of};
+use cmd_phases::{Fitted, Refused, forces_of};
 use design_circuit::{Circuit, Forces, History, Stim};
 use recording_writer::vcd_text;
 use replay_history::replay;
@@ -24,10 +23,9 @@ pub fn replay_job<'a, S: Shelf>(
     alloc: Global,
     shelf: &mut S,
     words: &Replay<'a>,
-    job: &Parts,
+    job: &Fitted,
 ) -> Result<Ready<'a>, Refusal<Refused>>
-    requires { FitsParts job.now }
-    ensures { Prepared S.told (coded_phases (replay_values words.now) job.now) answer_of
+    ensures { Prepared S.told (coded_phases (replay_values words.now) job.now.parts) answer_of
         (S.view shelf.old) (S.view shelf.new) result }
 {
     let forces = forces_of(alloc, shelf, words.code, &words.job, job)?;
@@ -35,20 +33,20 @@ pub fn replay_job<'a, S: Shelf>(
 }
 
 /// What the words ask of a job and of the forces that their code says.
+#[tactic(auto, using(cmd_phases::proofs::Jobs::circuit_fits))]
 fn replayed<'a>(
     alloc: Global,
     words: &Replay<'a>,
-    job: &Parts,
+    job: &Fitted,
     forces: &Forces,
 ) -> Result<Ready<'a>, Refusal<Refused>>
-    requires fits { FitsParts job.now }
-    requires forces { AreEvents (job_for job.now.netlist job.now.recorded) forces.now }
-    ensures { PreparedAlone (forced_phases (replay_values words.now) job.now forces.now) answer_of result }
+    requires forces { AreEvents (job_for job.now.parts.netlist job.now.parts.recorded) forces.now }
+    ensures { PreparedAlone (forced_phases (replay_values words.now) job.now.parts forces.now) answer_of result }
 {
     let circuit = Circuit {
-        design: &job.netlist.design,
-        order: &job.netlist.order,
-        stim: &job.recorded.stim,
+        design: &job.parts.netlist.design,
+        order: &job.parts.netlist.order,
+        stim: &job.parts.recorded.stim,
     };
     let history = replay(alloc, &circuit, forces)?;
     Ok(texts_of(alloc, words, job, &history)?)
@@ -58,17 +56,17 @@ fn replayed<'a>(
 fn texts_of<'a>(
     alloc: Global,
     words: &Replay<'a>,
-    job: &Parts,
+    job: &Fitted,
     history: &History,
 ) -> Result<Ready<'a>, Memory>
-    requires fits { FitsParts job.now }
-    requires places { HasPlaces (job_for job.now.netlist job.now.recorded) history.now }
-    ensures { IfOk result (λ ready. answer_of ready ≡ replay_answer (replay_values words.now) job.now history.now) }
+    requires places { HasPlaces (job_for job.now.parts.netlist job.now.parts.recorded) history.now }
+    ensures { IfOk result (λ ready. answer_of ready
+        ≡ replay_answer (replay_values words.now) job.now.parts history.now) }
 {
-    let recorded = &job.recorded;
+    let recorded = &job.parts.recorded;
     let vcd = vcd_text(
         alloc,
-        &job.netlist.design,
+        &job.parts.netlist.design,
         &recorded.binding,
         &recorded.stim,
         history,

@@ -3,14 +3,13 @@
 ghost use Rattle.std.specs.Prelude.{◌≡◌, IfOk};
 ghost use Rattle.base_run.specs.Prepared.{answer_of};
 ghost use Rattle.cmd_program.specs.Repair.{repair_values, HasTexts, answer_with};
-ghost use Rattle.cmd_phases.specs.Repair.{FitsJob, IsWaveOf};
+ghost use Rattle.cmd_phases.specs.Repair.{IsWaveOf};
 
 use crate::commands::repair::Repair;
 use crate::report::report_with;
 use base_lists::Memory;
 use base_run::{Output, Ready, Report};
-use cmd_job::{Netlist, Recorded};
-use cmd_phases::{conditions_for, form_of, names_of, write_cert};
+use cmd_phases::{Agreed, conditions_for, form_of, names_of, write_cert};
 use recording_shown::wave_text;
 use replay_code::write_code;
 use replay_forces::forces_of;
@@ -21,22 +20,21 @@ use wave_proved::Wave;
 pub fn texts_of<'a>(
     alloc: Global,
     words: &Repair<'a>,
-    netlist: &Netlist,
-    recorded: &Recorded,
+    agreed: &Agreed,
     wave: &Wave<'_>,
 ) -> Result<Ready<'a>, Memory>
-    requires fits { FitsJob netlist.now recorded.now }
-    requires wave { IsWaveOf netlist.now recorded.now wave.now }
-    ensures { IfOk result (λ ready.
-        HasTexts (repair_values words.now) netlist.now recorded.now wave.now (answer_of ready)) }
+    requires wave { IsWaveOf agreed.now.parts.netlist agreed.now.parts.recorded wave.now }
+    ensures { let parts = agreed.now.parts in IfOk result (λ ready.
+        HasTexts (repair_values words.now) parts.netlist parts.recorded wave.now (answer_of ready)) }
 {
+    let recorded = &agreed.parts.recorded;
     let binding = &recorded.binding;
     let vcd = wave_text(alloc, wave, binding)?;
     let scope = names_of(alloc, words.job.scope)?;
     let forces = forces_of(alloc, wave)?;
     let code = write_code(
         alloc,
-        &netlist.design,
+        &agreed.parts.netlist.design,
         &recorded.stim,
         scope.as_slice(),
         &forces,

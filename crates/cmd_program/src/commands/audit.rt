@@ -64,6 +64,6 @@ impl<'a> Run<'a> for Audit<'a> {
         out: &mut O,
     ) -> Result<Ready<'_>, Refusal<Refused>> {
         let agreed = agreed_of(alloc, shelf, &self.job)?;
-        audited(alloc, self, &agreed.job, &agreed.history, out)
+        audited(alloc, self, &agreed, out)
     }
 }

@@ -64,6 +64,6 @@ impl<'a> Run<'a> for Blame<'a> {
         out: &mut O,
     ) -> Result<Ready<'_>, Refusal<Refused>> {
         let agreed = agreed_of(alloc, shelf, &self.job)?;
-        blamed(alloc, self, &agreed.job, &agreed.history, out)
+        blamed(alloc, self, &agreed, out)
     }
 }

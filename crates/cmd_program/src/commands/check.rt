@@ -78,6 +78,6 @@ impl<'a> Run<'a> for Check<'a> {
         _out: &mut O,
     ) -> Result<Ready<'_>, Refusal<Refused>> {
         let agreed = agreed_of(alloc, shelf, &self.job)?;
-        check_agreed(alloc, shelf, self, &agreed.job, &agreed.history)
+        check_agreed(alloc, shelf, self, &agreed)
     }
 }

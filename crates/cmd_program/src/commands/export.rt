@@ -77,7 +77,7 @@ impl<'a> Run<'a> for Export<'a> {
         out: &mut O,
     ) -> Result<Ready<'_>, Refusal<Refused>> {
         let agreed = agreed_of(alloc, shelf, &self.job)?;
-        exported(alloc, self, &agreed.job, &agreed.history, out)
+        exported(alloc, self, &agreed, out)
     }
 }
 

@@ -67,6 +67,6 @@ impl<'a> Run<'a> for Fix<'a> {
         out: &mut O,
     ) -> Result<Ready<'_>, Refusal<Refused>> {
         let agreed = agreed_of(alloc, shelf, &self.job)?;
-        fixed(alloc, self, &agreed.job, &agreed.history, out)
+        fixed(alloc, self, &agreed, out)
     }
 }

@@ -109,7 +109,7 @@ impl<'a> Run<'a> for Repair<'a> {
         out: &mut O,
     ) -> Result<Ready<'_>, Refusal<Refused>> {
         let agreed = agreed_of(alloc, shelf, &self.job)?;
-        repaired(alloc, self, &agreed.job, &agreed.history, out)
+        repaired(alloc, self, &agreed, out)
     }
 }
 

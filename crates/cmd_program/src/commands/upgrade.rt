@@ -85,7 +85,7 @@ impl<'a> Run<'a> for Upgrade<'a> {
         _out: &mut O,
     ) -> Result<Ready<'_>, Refusal<Refused>> {
         let agreed = agreed_of(alloc, shelf, &self.job)?;
-        upgrade_agreed(alloc, shelf, self, &agreed.job, &agreed.history)
+        upgrade_agreed(alloc, shelf, self, &agreed)
     }
 }
 

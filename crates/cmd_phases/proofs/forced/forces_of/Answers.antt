@@ -7,20 +7,13 @@ use Rattle.cmd_words.specs.Words.{job_values}
 use Rattle.cmd_phases.specs.Code.{CodeComes, code_in, text_limit}
 use Rattle.cmd_phases.specs.Phases.{code_cause, itself, scope_of}
 use Rattle.cmd_phases.specs.declared.cause.Refused.TheVariants.{LongCode}
-use Rattle.cmd_phases.proofs.Jobs.{circuit_fits, design_fits}
 use Rattle.cmd_phases.proofs.forced.forces_of.Goals as goal
-
-pub forces_in-requires-clause-parts : goal.forces_in-requires-clause-parts
-forces_in-requires-clause-parts g c = circuit_fits c.args.job.now.netlist c.args.job.now.recorded c.requires
-
-pub forces_in-requires-clause-names : goal.forces_in-requires-clause-names
-forces_in-requires-clause-names g c = design_fits c.args.job.now.netlist c.args.job.now.recorded c.requires
 
 pub returns-clause-prepared : goal.returns-clause-prepared
 returns-clause-prepared g c =
     let told = g.S.Shelf.told in
     let w = job_values c.args.words.now in
-    let job = c.args.job.now in
+    let job = c.args.job.now.parts in
     let old = g.S.Shelf.view c.args.shelf.now in
     let new = g.S.Shelf.view c.read_input.new.shelf in
     let text = c.in_ok-text.text in

@@ -1,18 +1,17 @@
 -- The netlist is read, then the recording.
-use Rattle.std.proofs.Common.{rules, ◌≡◌, Err, Ok, refl, subst, sym}
+use Rattle.std.proofs.Common.{rules, ◌≡◌, Err, ap}
 use Rattle.base_run.specs.Phases.{Phases, ◌>>=◌}
-use Rattle.base_run.specs.Prepared.{Prepared}
 use Rattle.base_run.proofs.Then.{found_prepared, prepared_refused, prepared_then}
 use Rattle.cmd_job.specs.Recorded.{job_netlist}
 use Rattle.cmd_job.specs.declared.netlist.Netlist.{Netlist as ANetlist}
 use Rattle.cmd_job.specs.declared.recorded.Recorded.{Recorded}
 use Rattle.cmd_words.specs.Words.{job_values}
-use Rattle.cmd_phases.specs.Phases.{itself, job_parts, job_phases, netlist_phases, parts, recording_phases}
+use Rattle.cmd_phases.specs.Phases.{fitted_job, itself, job_parts, job_phases, netlist_phases, parts, recording_phases}
 use Rattle.cmd_phases.specs.Repair.{undriven_rule_of}
 use Rattle.cmd_phases.proofs.job.job_of.Goals as goal
 
-pub returns-in_err-recorded-clause-prepared : goal.returns-in_err-recorded-clause-prepared
-returns-in_err-recorded-clause-prepared g c =
+pub returns-in_err-recorded : goal.returns-in_err-recorded
+returns-in_err-recorded g c =
     let told = g.S.Shelf.told in
     let w = job_values c.args.words.now in
     let old = g.S.Shelf.view c.args.shelf.now in
@@ -21,12 +20,12 @@ returns-in_err-recorded-clause-prepared g c =
     let n = c.in_ok-netlist.netlist in
     let e = c.in_err-recorded.field-0.0 in
     let is : c.from_residual-in_err-recorded.result ≡ Err e = search rules in
-    rw is (prepared_then told (netlist_phases w) (λ (x : ANetlist). recording_phases w x >>= (λ (r : Recorded). Phases.Finds (job_parts w x r))) itself itself old mid new
+    rw is (prepared_then told (netlist_phases w) (λ (x : ANetlist). recording_phases w x >>= (λ (r : Recorded). Phases.Finds (job_parts w x r))) itself fitted_job old mid new
     n (Err e) c.in_ok-netlist.ensures.prepared
-    (prepared_refused told (recording_phases w n) (λ (r : Recorded). Phases.Finds (job_parts w n r)) itself itself mid new new e c.in_err-recorded.ensures.prepared))
+    (prepared_refused told (recording_phases w n) (λ (r : Recorded). Phases.Finds (job_parts w n r)) itself fitted_job mid new new e c.in_err-recorded.ensures.prepared))
 
-pub returns-clause-prepared : goal.returns-clause-prepared
-returns-clause-prepared g c =
+pub returns : goal.returns
+returns g c =
     let told = g.S.Shelf.told in
     let w = job_values c.args.words.now in
     let old = g.S.Shelf.view c.args.shelf.now in
@@ -35,8 +34,7 @@ returns-clause-prepared g c =
     let n = c.in_ok-netlist.netlist in
     let r = c.in_ok-recorded.recorded in
     let is : c.recorded_of.new.netlist ≡ job_netlist (undriven_rule_of w.undriven) n r.binding.bound = c.in_ok-recorded.ensures.netlist in
-    subst (λ (x : ANetlist). Prepared told (job_phases w) itself old new (Ok (parts x r))) (sym is)
-    (prepared_then told (netlist_phases w) (λ (x : ANetlist). recording_phases w x >>= (λ (y : Recorded). Phases.Finds (job_parts w x y))) itself itself old mid new
-    n (Ok (job_parts w n r)) c.in_ok-netlist.ensures.prepared
-    (prepared_then told (recording_phases w n) (λ (y : Recorded). Phases.Finds (job_parts w n y)) itself itself mid new new r (Ok (job_parts w n r)) c.in_ok-recorded.ensures.prepared
-    (found_prepared told itself (job_parts w n r) new (job_parts w n r) refl)))
+    prepared_then told (netlist_phases w) (λ (x : ANetlist). recording_phases w x >>= (λ (y : Recorded). Phases.Finds (job_parts w x y))) itself fitted_job old mid new
+    n _ c.in_ok-netlist.ensures.prepared
+    (prepared_then told (recording_phases w n) (λ (y : Recorded). Phases.Finds (job_parts w n y)) itself fitted_job mid new new r _ c.in_ok-recorded.ensures.prepared
+    (found_prepared told fitted_job (job_parts w n r) new _ (ap (λ (x : ANetlist). parts x r) is)))

@@ -11,12 +11,12 @@ use Rattle.cmd_program.proofs.blamed.blamed.Goals as goal
 
 pub returns-clause-prepared : goal.returns-clause-prepared
 returns-clause-prepared g c =
-    listed_found c.args.words.now.limits c.args.job.now.netlist c.args.job.now.recorded (BlameComes c.args.job.now.recorded.binding.bound)
-    record { history = c.args.history.now; wave = c.in_ok-wave.wave; shown = shown_history c.in_ok-wave.wave }
+    listed_found c.args.words.now.limits c.args.agreed.now.parts.netlist c.args.agreed.now.parts.recorded (BlameComes c.args.agreed.now.parts.recorded.binding.bound)
+    record { history = c.args.agreed.now.history; wave = c.in_ok-wave.wave; shown = shown_history c.in_ok-wave.wave }
     c.in_ok-listed.field-0
     record {
-      fits = c.requires.fits;
-      replay = c.requires.replay;
+      fits = c.args.agreed.now.fits;
+      replay = c.args.agreed.now.replay;
       repaired = c.in_ok-wave.ensures.repaired;
       shows = shows_wave c.in_ok-wave.wave;
     }
@@ -25,4 +25,4 @@ returns-clause-prepared g c =
 pub returns-in_err-listed-clause-prepared : goal.returns-in_err-listed-clause-prepared
 returns-in_err-listed-clause-prepared g c =
     let is : c.from_residual-in_err-listed.result ≡ Err Memory = search rules in
-    rw is (memory_out (walk_blamed (blame_values c.args.words.now) c.args.job.now) answer_of)
+    rw is (memory_out (walk_blamed (blame_values c.args.words.now) c.args.agreed.now.parts) answer_of)

@@ -11,6 +11,6 @@ returns g c =
     let w = check_values c.args.words.now in
     let old = g.S.Shelf.view c.args.shelf.now in
     let new = g.S.Shelf.view c.certificate_of.new.shelf in
-    let job = c.args.job.now in
+    let job = c.args.agreed.now.parts in
     prepared_then told (certificate_phases w.cert) (checked_phases w job) itself answer_of old new new c.in_ok-cert.cert c.checked.result
     c.in_ok-cert.ensures (c.checked.ensures told new)

@@ -13,14 +13,14 @@ use Rattle.cmd_program.proofs.checked.checked.Goals as goal
 pub returns : goal.returns
 returns c =
     let checked = c.in_ok-checked.checked in
-    check_found (check_values c.args.words.now) c.args.job.now c.args.cert checked.wave checked.conditions
+    check_found (check_values c.args.words.now) c.args.agreed.now.parts c.args.cert checked.wave checked.conditions
     c.in_ok-report_of.field-0 c.in_ok-checked.ensures.certified
-    (c.in_ok-report_of.ensures ∙ ap (λ (views : List ConditionView). check_answer (check_values c.args.words.now) c.args.job.now (check_shows checked.wave views)) c.as_slice-conditions.ensures)
+    (c.in_ok-report_of.ensures ∙ ap (λ (views : List ConditionView). check_answer (check_values c.args.words.now) c.args.agreed.now.parts (check_shows checked.wave views)) c.as_slice-conditions.ensures)
 
 pub report_of-requires-clause-wave : goal.report_of-requires-clause-wave
 report_of-requires-clause-wave c =
     let checked = c.in_ok-checked.checked in
-    certified_of_job c.args.words.now.limits c.args.job.now c.args.cert checked.wave checked.conditions c.in_ok-checked.ensures.certified
+    certified_of_job c.args.words.now.limits c.args.agreed.now.parts c.args.cert checked.wave checked.conditions c.in_ok-checked.ensures.certified
 
 pub report_of-requires-clause-conditions : goal.report_of-requires-clause-conditions
 report_of-requires-clause-conditions c =

@@ -9,6 +9,6 @@ use Rattle.cmd_program.proofs.checked.report_of.Goals as goal
 
 pub returns : goal.returns
 returns c =
-    report_answer (check_values c.args.words.now) c.args.job.now c.args.wave.now c.args.conditions.now c.in_ok-forces.forces c.in_ok-report.report.items (answer_of c.ready_with.result)
+    report_answer (check_values c.args.words.now) c.args.agreed.now.parts c.args.wave.now c.args.conditions.now c.in_ok-forces.forces c.in_ok-report.report.items (answer_of c.ready_with.result)
     (forces_are c.args.wave.now c.in_ok-forces.forces c.in_ok-forces.ensures) c.in_ok-report.ensures
     (c.ready_with.ensures ∙ ap (λ (v : Vec ℕ Global). record { files = []; printed = v.items }) c.in_ok-new.ensures)

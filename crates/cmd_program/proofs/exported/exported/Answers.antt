@@ -7,12 +7,12 @@ use Rattle.cmd_program.proofs.exported.exported.Goals as goal
 
 pub returns-clause-prepared : goal.returns-clause-prepared
 returns-clause-prepared g c =
-    listed_found c.args.words.now.limits c.args.job.now.netlist c.args.job.now.recorded (ExportComes c.args.words.now.prefix.now)
-    record { history = c.args.history.now; wave = c.in_ok-wave.wave; shown = shown_history c.in_ok-wave.wave }
+    listed_found c.args.words.now.limits c.args.agreed.now.parts.netlist c.args.agreed.now.parts.recorded (ExportComes c.args.words.now.prefix.now)
+    record { history = c.args.agreed.now.history; wave = c.in_ok-wave.wave; shown = shown_history c.in_ok-wave.wave }
     c.in_ok-export_texts.field-0
     record {
-      fits = c.requires.fits;
-      replay = c.requires.replay;
+      fits = c.args.agreed.now.fits;
+      replay = c.args.agreed.now.replay;
       repaired = c.in_ok-wave.ensures.repaired;
       shows = shows_wave c.in_ok-wave.wave;
     }

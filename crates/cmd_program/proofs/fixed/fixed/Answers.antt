@@ -12,8 +12,8 @@ use Rattle.cmd_program.proofs.fixed.fixed.Goals as goal
 pub returns-clause-prepared : goal.returns-clause-prepared
 returns-clause-prepared g c =
     let w = fix_values c.args.words.now in
-    let n = c.args.job.now.netlist in
-    let r = c.args.job.now.recorded in
+    let n = c.args.agreed.now.parts.netlist in
+    let r = c.args.agreed.now.parts.recorded in
     let judged = subst (λ (l : List Piece). Judged (StartsCome n r.stim l) start_cause itself (Ok c.in_ok-stim.stim))
     (c.as_slice.ensures.value ∙ c.in_ok-sets.ensures) c.in_ok-stim.ensures.judged in
     judged_then (StartsCome n r.stim (sets_of w.sets)) start_cause (λ (stim : Stim). walk_fixed w n r stim) itself answer_of

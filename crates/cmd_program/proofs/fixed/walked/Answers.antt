@@ -7,19 +7,16 @@ use Rattle.cmd_phases.specs.Repair.{ReplayWalkComes, Walked}
 use Rattle.cmd_phases.proofs.Jobs.{circuit_fits}
 use Rattle.cmd_program.proofs.fixed.walked.Goals as goal
 
-pub replay_wave-requires-clause-fits : goal.replay_wave-requires-clause-fits
-replay_wave-requires-clause-fits g c = circuit_fits c.args.set.now.job.now.netlist c.args.set.now.job.now.recorded c.requires.set.fits
-
 pub returns-clause-prepared : goal.returns-clause-prepared
 returns-clause-prepared g c =
     let set = c.args.set.now in
     let w = fix_values set.words in
-    let n = set.job.now.netlist in
-    let r = set.job.now.recorded in
+    let n = set.agreed.now.parts.netlist in
+    let r = set.agreed.now.parts.recorded in
     searched_then (ReplayWalkComes w.limits n r.stim) walk_cause (λ (x : Walked). walk_set w n r set.stim.now x.wave) itself answer_of
-    record { history = set.history.now; wave = c.in_ok-before.before } c.walked_set.result
+    record { history = set.agreed.now.history; wave = c.in_ok-before.before } c.walked_set.result
     record {
-      found = record { fits = circuit_fits n r c.requires.set.fits; replay = c.requires.set.replay; repaired = c.in_ok-before.ensures.repaired };
+      found = record { fits = circuit_fits n r c.args.set.now.agreed.now.fits; replay = c.args.set.now.agreed.now.replay; repaired = c.in_ok-before.ensures.repaired };
       refused = tt;
     }
     c.walked_set.ensures.prepared

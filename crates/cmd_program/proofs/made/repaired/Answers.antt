@@ -8,7 +8,7 @@ use Rattle.cmd_program.proofs.made.repaired.Goals as goal
 
 pub returns-clause-prepared : goal.returns-clause-prepared
 returns-clause-prepared g c =
-    let n = c.args.job.now.netlist in
-    let r = c.args.job.now.recorded in
+    let n = c.args.job.parts.netlist in
+    let r = c.args.job.parts.recorded in
     judged_then (CompareComes n r) compare_cause (λ (agreed : Unit {0}). walk_made (make_values c.args.texts.words) c.args.texts.recording.items n r)
     nothing_in answer_of c.in_ok-history.history c.walked.result c.in_ok-history.ensures.judged c.walked.ensures.prepared

@@ -11,12 +11,12 @@ use Rattle.cmd_program.proofs.made.walked.Goals as goal
 
 pub returns-clause-prepared : goal.returns-clause-prepared
 returns-clause-prepared g c =
-    made_found (make_values c.args.texts.words) c.args.texts.recording.items c.args.job.now.netlist c.args.job.now.recorded
-    record { history = c.args.history.now; wave = c.in_ok-wave.wave; shown = shown_history c.in_ok-wave.wave }
+    made_found (make_values c.args.texts.words) c.args.texts.recording.items c.args.agreed.now.parts.netlist c.args.agreed.now.parts.recorded
+    record { history = c.args.agreed.now.history; wave = c.in_ok-wave.wave; shown = shown_history c.in_ok-wave.wave }
     c.in_ok-answered.field-0
     record {
-      fits = c.requires.fits;
-      replay = c.requires.replay;
+      fits = c.args.agreed.now.fits;
+      replay = c.args.agreed.now.replay;
       repaired = c.in_ok-wave.ensures.repaired;
       shows = shows_wave c.in_ok-wave.wave;
     }
@@ -25,5 +25,5 @@ returns-clause-prepared g c =
 pub returns-in_err-answered-clause-prepared : goal.returns-in_err-answered-clause-prepared
 returns-in_err-answered-clause-prepared g c =
     let is : c.from_residual-in_err-answered.result ≡ Err Memory = search rules in
-    rw is (memory_out (walk_made (make_values c.args.texts.words) c.args.texts.recording.items c.args.job.now.netlist
-    c.args.job.now.recorded) answer_of)
+    rw is (memory_out (walk_made (make_values c.args.texts.words) c.args.texts.recording.items c.args.agreed.now.parts.netlist
+    c.args.agreed.now.parts.recorded) answer_of)

@@ -8,13 +8,13 @@ use Rattle.base_run.specs.Prepared.{answer_of}
 use Rattle.cmd_program.proofs.repaired.repaired.Goals as goal
 
 pub returns-clause-prepared : goal.returns-clause-prepared
-returns-clause-prepared g c = walk_found (repair_values c.args.words.now) c.args.job.now.netlist c.args.job.now.recorded
-    record { history = c.args.history.now; wave = c.in_ok-wave.wave; shown = c.in_ok-texts_of.ensures.shown }
+returns-clause-prepared g c = walk_found (repair_values c.args.words.now) c.args.agreed.now.parts.netlist c.args.agreed.now.parts.recorded
+    record { history = c.args.agreed.now.history; wave = c.in_ok-wave.wave; shown = c.in_ok-texts_of.ensures.shown }
     c.in_ok-texts_of.ensures.conditions c.in_ok-texts_of.field-0
-    record { fits = c.requires.fits; replay = c.requires.replay; repaired = c.in_ok-wave.ensures.repaired; shows = c.in_ok-texts_of.ensures.shows }
+    record { fits = c.args.agreed.now.fits; replay = c.args.agreed.now.replay; repaired = c.in_ok-wave.ensures.repaired; shows = c.in_ok-texts_of.ensures.shows }
     c.in_ok-texts_of.ensures.conditions_are c.in_ok-texts_of.ensures.is
 
 pub returns-in_err-texts_of-clause-prepared : goal.returns-in_err-texts_of-clause-prepared
 returns-in_err-texts_of-clause-prepared g c =
     let is : c.from_residual-in_err-texts_of.result ≡ Err Memory = search rules in
-    rw is (memory_out (walk_phases (repair_values c.args.words.now) c.args.job.now) answer_of)
+    rw is (memory_out (walk_phases (repair_values c.args.words.now) c.args.agreed.now.parts) answer_of)

@@ -11,6 +11,6 @@ returns g c =
     let w = replay_values c.args.words.now in
     let old = g.S.Shelf.view c.args.shelf.now in
     let new = g.S.Shelf.view c.forces_of.new.shelf in
-    let job = c.args.job.now in
+    let job = c.args.job.now.parts in
     prepared_then told (code_phases w.code w.job job) (forced_phases w job) itself answer_of old new new c.in_ok-forces.forces c.replayed.result
     c.in_ok-forces.ensures.prepared (c.replayed.ensures told new)

@@ -3,4 +3,4 @@ use Rattle.cmd_program.proofs.TextsOf.{has_steps}
 use Rattle.cmd_program.proofs.replayed.texts_of.Goals as goal
 
 pub vcd_text-requires-clause-steps : goal.vcd_text-requires-clause-steps
-vcd_text-requires-clause-steps c = has_steps c.args.job.now.netlist c.args.job.now.recorded c.args.history.now c.requires.fits c.requires.places
+vcd_text-requires-clause-steps c = has_steps c.args.job.now.parts.netlist c.args.job.now.parts.recorded c.args.history.now c.args.job.now.fits c.requires.places

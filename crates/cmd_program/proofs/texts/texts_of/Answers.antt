@@ -14,10 +14,10 @@ use Rattle.cmd_program.proofs.texts.texts_of.Goals as goal
 
 pub wave_text-requires-clause-binding : goal.wave_text-requires-clause-binding
 wave_text-requires-clause-binding c =
-    subst (λ (d : Design). FitsBinding d c.args.recorded.now.binding) (sym c.requires.wave.design) c.requires.fits.recorded.binding
+    subst (λ (d : Design). FitsBinding d c.args.agreed.now.parts.recorded.binding) (sym c.requires.wave.design) c.args.agreed.now.fits.recorded.binding
 
 pub write_code-requires : goal.write_code-requires
-write_code-requires c = wave_forces_written c.args.netlist.now c.args.recorded.now c.args.wave.now c.in_ok-forces.forces c.requires.fits c.requires.wave c.in_ok-forces.ensures
+write_code-requires c = wave_forces_written c.args.agreed.now.parts.netlist c.args.agreed.now.parts.recorded c.args.wave.now c.in_ok-forces.forces c.args.agreed.now.fits c.requires.wave c.in_ok-forces.ensures
 
 pub report_with-requires-clause-conditions : goal.report_with-requires-clause-conditions
 report_with-requires-clause-conditions c =
@@ -25,11 +25,11 @@ report_with-requires-clause-conditions c =
     (are_some c.form_of-form.result c.args.wave.now c.in_ok-conditions.conditions.items c.in_ok-conditions.ensures)
 
 pub returns : goal.returns
-returns c = wave_texts (repair_values c.args.words.now) c.args.netlist.now c.args.recorded.now c.args.wave.now (shown_history c.args.wave.now)
+returns c = wave_texts (repair_values c.args.words.now) c.args.agreed.now.parts.netlist c.args.agreed.now.parts.recorded c.args.wave.now (shown_history c.args.wave.now)
     c.in_ok-forces.forces c.as_slice.result.now c.in_ok-vcd.vcd.items c.in_ok-code.code.items c.in_ok-cert.cert.items c.in_ok-report.report.items
     c.form_of-form.result c.in_ok-conditions.conditions.items c.as_slice-listed.result.now
     (shows_wave c.args.wave.now) (forces_are c.args.wave.now c.in_ok-forces.forces c.in_ok-forces.ensures)
-    (c.as_slice.ensures.value ∙ c.in_ok-scope.ensures.pieces) (c.in_ok-vcd.ensures ∙ wave_vcd c.args.netlist.now c.args.recorded.now c.args.wave.now (shown_history c.args.wave.now) c.requires.wave)
+    (c.as_slice.ensures.value ∙ c.in_ok-scope.ensures.pieces) (c.in_ok-vcd.ensures ∙ wave_vcd c.args.agreed.now.parts.netlist c.args.agreed.now.parts.recorded c.args.wave.now (shown_history c.args.wave.now) c.requires.wave)
     c.in_ok-code.ensures c.form_of-form.ensures c.in_ok-conditions.ensures
     c.as_slice-listed.ensures.value c.in_ok-cert.ensures c.in_ok-report.ensures
     c.ready_of.result c.ready_of.ensures

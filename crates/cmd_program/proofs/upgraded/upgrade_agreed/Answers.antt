@@ -11,6 +11,6 @@ returns g c =
     let w = upgrade_values c.args.words.now in
     let old = g.S.Shelf.view c.args.shelf.now in
     let new = g.S.Shelf.view c.certificate_of.new.shelf in
-    let job = c.args.job.now in
+    let job = c.args.agreed.now.parts in
     prepared_then told (certificate_phases w.cert) (formed_upgrade w job) itself answer_of old new new c.in_ok-cert.cert c.upgraded.result
     c.in_ok-cert.ensures (c.upgraded.ensures told new)

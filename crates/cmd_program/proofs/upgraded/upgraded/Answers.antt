@@ -8,5 +8,5 @@ use Rattle.cmd_program.proofs.upgraded.upgraded.Goals as goal
 
 pub returns : goal.returns
 returns c =
-    judged_then (FormComes c.args.cert) uncertified_cause (λ (plain : Unit {0}). checked_upgrade (upgrade_values c.args.words.now) c.args.job.now c.args.cert)
+    judged_then (FormComes c.args.cert) uncertified_cause (λ (plain : Unit {0}). checked_upgrade (upgrade_values c.args.words.now) c.args.agreed.now.parts c.args.cert)
     nothing_in answer_of c.in_ok-without_turns.field-0 c.with_turns.result c.in_ok-without_turns.ensures c.with_turns.ensures

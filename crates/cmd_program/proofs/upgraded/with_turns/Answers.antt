@@ -13,7 +13,7 @@ use Rattle.cmd_program.proofs.upgraded.with_turns.Goals as goal
 pub texts_of-requires-clause-wave : goal.texts_of-requires-clause-wave
 texts_of-requires-clause-wave c =
     let checked = c.in_ok-checked.checked in
-    certified_of_job c.args.words.now.limits c.args.job.now c.args.cert checked.wave checked.conditions c.in_ok-checked.ensures.certified
+    certified_of_job c.args.words.now.limits c.args.agreed.now.parts c.args.cert checked.wave checked.conditions c.in_ok-checked.ensures.certified
 
 pub texts_of-requires-clause-conditions : goal.texts_of-requires-clause-conditions
 texts_of-requires-clause-conditions c =
@@ -25,6 +25,6 @@ pub returns : goal.returns
 returns c =
     let w = upgrade_values c.args.words.now in
     let checked = c.in_ok-checked.checked in
-    upgrade_found w c.args.job.now c.args.cert checked.wave checked.conditions c.in_ok-conditions.conditions.items
+    upgrade_found w c.args.agreed.now.parts c.args.cert checked.wave checked.conditions c.in_ok-conditions.conditions.items
     c.in_ok-texts_of.field-0 c.in_ok-checked.ensures.certified c.in_ok-conditions.ensures
-    (c.in_ok-texts_of.ensures ∙ ap (λ (views : List ConditionView). upgrade_answer w c.args.job.now checked.wave views) c.as_slice.ensures.value)
+    (c.in_ok-texts_of.ensures ∙ ap (λ (views : List ConditionView). upgrade_answer w c.args.agreed.now.parts checked.wave views) c.as_slice.ensures.value)

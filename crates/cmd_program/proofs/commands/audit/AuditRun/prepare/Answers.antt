@@ -7,10 +7,10 @@ use Rattle.cmd_program.proofs.commands.audit.AuditRun.prepare.Goals as goal
 pub returns-clause-prepared : goal.returns-clause-prepared
 returns-clause-prepared g c =
     let w = audit_values c.args.self.now in
-    agreed_prepared w.job (walk_audited w) c.in_ok-agreed.ensures.prepared (c.audited.ensures.prepared _ _)
+    agreed_prepared w.job (walk_audited w) c.in_ok-agreed.ensures (c.audited.ensures.prepared _ _)
 
 pub returns-in_err-agreed-clause-prepared : goal.returns-in_err-agreed-clause-prepared
 returns-in_err-agreed-clause-prepared g c =
     let w = audit_values c.args.self.now in
     let is : c.from_residual.result ≡ Err c.in_err-agreed.field-0.0 = search rules in
-    agreed_refused w.job (walk_audited w) is c.in_err-agreed.ensures.prepared
+    agreed_refused w.job (walk_audited w) is c.in_err-agreed.ensures
