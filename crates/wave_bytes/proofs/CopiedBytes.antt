@@ -32,7 +32,7 @@ use Rattle.law_quiet.proofs.StretchedRuns.{stretch_law}
 use Rattle.law_quiet.proofs.Sweeps.{net_is, repeated_long, step_on}
 use Rattle.wave_bytes.specs.Byte.{copied_byte, facts_in, facts_of_byte, is_uncertain, written_of_byte}
 use Rattle.wave_bytes.specs.Kept.{AreRowsOf, BytesTell, IsWrittenBehind, ValuesAgree}
-use Rattle.wave_bytes.specs.Roots.{IsRooted}
+use Rattle.wave_bytes.specs.Roots.{HasRoot, IsRootBehind}
 use Rattle.wave_bytes.specs.Repeat.{AreSteadyFrom, IsStretch}
 use Rattle.wave_bytes.specs.Rows.{AreCopiedAgain, IsCopiedAgain, RowsView, nth_root, root_place}
 use Rattle.wave_bytes.proofs.ByteDigits.{copied_again, copied_says, copied_written}
@@ -64,7 +64,7 @@ copies_there j fits step p net low within is =
     AllStand position driver = AllByRecursion (StandsBefore j position) (arguments_of_driver driver)
 
 -- What a position copies stands at its steps with what stands at the position.
-module _ (j : Job) (fits : Fits j) (roots : List ℕ) (each : (p : ℕ) → p < j.width → IsRooted j roots p) where
+module _ (j : Job) (fits : Fits j) (roots : List ℕ) (each : (p : ℕ) → p < j.width → HasRoot j roots p) where
   rooted_to : (c : ℕ → Value) (step n p : ℕ) → p < n → p < j.width → spot_at j step p < places_of j
       → AgreeBefore j c (spot_at j step p + 1)
       → IsCopied j c (spot_at j step p) (spot_at j step (nth_root roots p))
@@ -72,14 +72,14 @@ module _ (j : Job) (fits : Fits j) (roots : List ℕ) (each : (p : ℕ) → p < 
   rooted_to c step (suc n) p less low within agree =
       by (each p low) (λ q less low within agree. rooted_to c step n q less low within agree)
     where
-      by : IsRooted j roots p
+      by : HasRoot j roots p
           → ((q : ℕ) → q < n → q < j.width → spot_at j step q < places_of j → AgreeBefore j c (spot_at j step q + 1)
           → IsCopied j c (spot_at j step q) (spot_at j step (nth_root roots q)))
           → IsCopied j c (spot_at j step p) (spot_at j step (nth_root roots p))
-      by (IsRooted.itself is) earlier =
+      by (IsRootBehind.itself is) earlier =
           subst (λ r. IsCopied j c (spot_at j step p) (spot_at j step r)) (sym is)
           (record { value = refl; keeps = refl })
-      by (IsRooted.copied net driver before is) earlier =
+      by (IsRootBehind.copied net driver before is) earlier =
           let there = copy_law j c (spot_at j step p) (at j step net) fits within agree
           (copies_there j fits step p net low within driver) in
           let further = earlier (position_of j.order net) (omega (arith, before, less))
@@ -100,12 +100,12 @@ module _ (j : Job) (fits : Fits j) (roots : List ℕ) (each : (p : ℕ) → p < 
   agree_to waveform step (suc n) p less low within there copies =
       by (each p low) (λ q less low there. agree_to waveform step n q less low within there copies)
     where
-      by : IsRooted j roots p
+      by : HasRoot j roots p
           → ((q : ℕ) → q < n → q < j.width → spot_at j step q < length waveform
           → written_at waveform (spot_at j step q) ≡ written_at waveform (spot_at j step (nth_root roots q)))
           → written_at waveform (spot_at j step p) ≡ written_at waveform (spot_at j step (nth_root roots p))
-      by (IsRooted.itself is) earlier = ap (λ r. written_at waveform (spot_at j step r)) (sym is)
-      by (IsRooted.copied net driver before is) earlier =
+      by (IsRootBehind.itself is) earlier = ap (λ r. written_at waveform (spot_at j step r)) (sym is)
+      by (IsRootBehind.copied net driver before is) earlier =
           copies (spot_at j step p) (at j step net) there
           (copies_there j fits step p net low (omega (arith, there, within)) driver)
           ∙ earlier (position_of j.order net) (omega (arith, before, less))
@@ -128,9 +128,9 @@ module _ (j : Job) (fits : Fits j) (roots : List ℕ) (each : (p : ℕ) → p < 
       place : ℕ
       place = spot_at j step p
 
-      by : IsRooted j roots p → is_carried_on (class_of j c place) (before j place) ≡ true
-      by (IsRooted.itself is) = absurd (other is)
-      by (IsRooted.copied net driver low_net is) =
+      by : HasRoot j roots p → is_carried_on (class_of j c place) (before j place) ≡ true
+      by (IsRootBehind.itself is) = absurd (other is)
+      by (IsRootBehind.copied net driver low_net is) =
           let copies = copies_there j fits step p net low within driver in
           let earlier = copies.earlier in
           let from : ℕ = at j step net in

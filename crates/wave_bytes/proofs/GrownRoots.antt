@@ -6,8 +6,8 @@ use Rattle.std.proofs.Math.Seq.{get_or-append_right}
 use Rattle.std.proofs.lemmas.Bool.{cases_eq}
 use Rattle.design_circuit.specs.Job.{Job}
 use Rattle.design_circuit.specs.Order.{position_of}
-use Rattle.wave_bytes.specs.Roots.{AreRootsTo, IsRootBehind, IsRooted}
-use Rattle.wave_bytes.specs.Rows.{AreRoots, nth_root}
+use Rattle.wave_bytes.specs.Roots.{AreRootsTo, HasRoot, IsRootBehind}
+use Rattle.wave_bytes.specs.Rows.{nth_root}
 
 pub roots_none : (j : Job) → AreRootsTo j 0 []
 roots_none j = record {
@@ -31,7 +31,7 @@ root_last n root rs long =
 record IsLast (j : Job) (n : ℕ) (new : List ℕ) : Type 0 where
   low : nth_root new n ≤ n
   root : nth_root new (nth_root new n) ≡ nth_root new n
-  each : IsRooted j new n
+  each : HasRoot j new n
 
 last_is : (j : Job) (n root : ℕ) (rs : List ℕ) → AreRootsTo j n rs → IsRootBehind j rs n root
     → IsLast j n (rs ++ root ∷ [])
@@ -40,7 +40,7 @@ last_is j n root rs are (IsRootBehind.itself own) =
     record {
       low = omega (arith, last, own);
       root = ap (nth_root (rs ++ root ∷ [])) (last ∙ own);
-      each = IsRooted.itself (last ∙ own);
+      each = IsRootBehind.itself (last ∙ own);
     }
 last_is j n root rs are (IsRootBehind.copied net driver low is) =
     let new : List ℕ = rs ++ root ∷ [] in
@@ -51,14 +51,14 @@ last_is j n root rs are (IsRootBehind.copied net driver low is) =
       low = omega (arith, last, is, up, low);
       root = ap (nth_root new) (last ∙ is) ∙ root_first n root rs are.long (nth_root rs q) (omega (arith, up, low))
           ∙ are.root q low ∙ sym is ∙ sym last;
-      each = IsRooted.copied net driver low (last ∙ is ∙ sym (root_first n root rs are.long q low));
+      each = IsRootBehind.copied net driver low (last ∙ is ∙ sym (root_first n root rs are.long q low));
     }
 
-rooted_first : (j : Job) (n root : ℕ) (rs : List ℕ) → length rs ≡ n → (q : ℕ) → q < n → IsRooted j rs q
-    → IsRooted j (rs ++ root ∷ []) q
-rooted_first j n root rs long q low (IsRooted.itself is) = IsRooted.itself (root_first n root rs long q low ∙ is)
-rooted_first j n root rs long q low (IsRooted.copied net driver less is) =
-    IsRooted.copied net driver less (root_first n root rs long q low ∙ is
+rooted_first : (j : Job) (n root : ℕ) (rs : List ℕ) → length rs ≡ n → (q : ℕ) → q < n → HasRoot j rs q
+    → HasRoot j (rs ++ root ∷ []) q
+rooted_first j n root rs long q low (IsRootBehind.itself is) = IsRootBehind.itself (root_first n root rs long q low ∙ is)
+rooted_first j n root rs long q low (IsRootBehind.copied net driver less is) =
+    IsRootBehind.copied net driver less (root_first n root rs long q low ∙ is
     ∙ sym (root_first n root rs long (position_of j.order net) (omega (arith, less, low))))
 
 by_cases : (n : ℕ) (P : ℕ → Type 0) → ((q : ℕ) → q < n → P q) → P n → (p : ℕ) → p < n + 1 → P p
@@ -82,9 +82,5 @@ roots_grown j n root rs are behind =
           ∙ root_first n root rs are.long (nth_root rs q) (omega (arith, up, low)) ∙ are.root q low
           ∙ sym (root_first n root rs are.long q low)))
           last.root;
-      each = by_cases n (IsRooted j new) (λ q low. rooted_first j n root rs are.long q low (are.each q low)) last.each;
+      each = by_cases n (λ q. HasRoot j new q) (λ q low. rooted_first j n root rs are.long q low (are.each q low)) last.each;
     }
-
--- So they are those of rows.
-pub roots_are : (j : Job) (w : ℕ) (rs : List ℕ) → AreRootsTo j w rs → AreRoots w rs
-roots_are j w rs are = record { long = are.long; low = are.low; root = are.root }

@@ -9,7 +9,7 @@ use Rattle.std.proofs.lemmas.List.{get_or-drop, get_or-take, length-take-le}
 use Rattle.wave_bytes.specs.Anew.{anew_byte, anew_number, no_anew, nth_anew, number_behind, number_next}
 use Rattle.wave_bytes.specs.Byte.{repeated_byte}
 use Rattle.wave_bytes.specs.Track.{with_noted}
-use Rattle.wave_bytes.specs.Rows.{AreAgain, AreAnewBetween, AreNoted, IsAgain, IsNoted, byte_there, bytes_in, rows_of}
+use Rattle.wave_bytes.specs.Rows.{AreAgain, AreAnewBetween, AreNoted, IsNoted, IsWrittenAgain, byte_there, bytes_in, rows_of}
 use Rattle.wave_bytes.specs.declared.anew.Anew.{Anew}
 use Rattle.wave_bytes.specs.declared.track.Entry.{Entry}
 use Rattle.wave_bytes.proofs.RowPlaces.{bytes_at}
@@ -72,7 +72,7 @@ last_by false n place log IsRepeated is said =
 pub noted_more : (w n byte : ℕ) (rs : List ℕ) (old new : List (List Entry)) (place : Anew) (log : List Anew)
     (again : Bool) → 0 < w
     → ((k : ℕ) → k < n → byte_there w rs new k ≡ byte_there w rs old k) → byte_there w rs new n ≡ byte
-    → anew_number place ≡ n → anew_byte place ≡ byte → (again ≡ true → w ≤ n → IsAgain w rs new n)
+    → anew_number place ≡ n → anew_byte place ≡ byte → (again ≡ true → w ≤ n → IsWrittenAgain w rs new n)
     → AreNoted w n rs old log → AreNoted w (n + 1) rs new (with_noted log place again)
 noted_more w n byte rs old new place log again some same last number_is byte_is said is = record {
   rising = rising_by again n place log number_is is.rising is.reached;
@@ -82,12 +82,12 @@ noted_more w n byte rs old new place log again some same last number_is byte_is 
       (λ i low. is.bytes i low ∙ sym (same (anew_number (nth_anew log i)) (is.reached i low)))
       (byte_is ∙ sym last ∙ ap (byte_there w rs new) (sym number_is));
   noted = λ k later less. ⊎_elim
-      (λ (here : k ≡ n). subst (λ m. IsNoted (with_noted log place again) m ⊎ IsAgain w rs new m) (sym here)
-      (last_by again n place log (IsAgain w rs new n) number_is
+      (λ (here : k ≡ n). subst (λ m. IsNoted (with_noted log place again) m ⊎ IsWrittenAgain w rs new m) (sym here)
+      (last_by again n place log (IsWrittenAgain w rs new n) number_is
       (λ on. said on (omega (arith, here, later)))))
       (λ (other : k ≡ n → ⊥). ⊎_elim
       (λ (found : IsNoted log k). inl (noted_by again place log k found))
-      (λ (repeats : IsAgain w rs old k). inr (same k (omega (arith, less, other)) ∙ repeats
+      (λ (repeats : IsWrittenAgain w rs old k). inr (same k (omega (arith, less, other)) ∙ repeats
       ∙ ap repeated_byte (sym (same (k - w) (omega (arith, less, other, some, later))))))
       (is.noted k later (omega (arith, less, other))))
       (cases_eq k n);
@@ -95,13 +95,13 @@ noted_more w n byte rs old new place log again some same last number_is byte_is 
 
 -- So many places more, none of them noted.
 pub noted_on : (w n many : ℕ) (rs : List ℕ) (ts : List (List Entry)) (log : List Anew)
-    → ((k : ℕ) → k < many → IsAgain w rs ts (n + k)) → AreNoted w n rs ts log → AreNoted w (n + many) rs ts log
+    → ((k : ℕ) → k < many → IsWrittenAgain w rs ts (n + k)) → AreNoted w n rs ts log → AreNoted w (n + many) rs ts log
 noted_on w n many rs ts log again is = record {
   rising = is.rising;
   reached = λ i low. (let old = is.reached i low in omega (arith, old));
   bytes = is.bytes;
   noted = λ k later less. ⊎_elim (λ (low : k < n). is.noted k later low)
-      (λ (up : n ≤ k). inr (subst (IsAgain w rs ts) (omega (arith, up)) (again (k - n) (omega (arith, up, less)))))
+      (λ (up : n ≤ k). inr (subst (IsWrittenAgain w rs ts) (omega (arith, up)) (again (k - n) (omega (arith, up, less)))))
       (cases_lt k n);
 }
 
@@ -112,7 +112,7 @@ pub again_between : (w s n number count end : ℕ) (rs : List ℕ) (ts : List (L
     → (count < length log → end ≤ anew_number (nth_anew log count)) → AreAgain (rows_of w s rs ts n) number end
 again_between w s n number count end rs ts log is up last within next = λ place from less later. ⊎_elim
     (λ (found : IsNoted log place). absurd (none place from less found))
-    (λ (repeats : IsAgain w rs ts place).
+    (λ (repeats : IsWrittenAgain w rs ts place).
     bytes_at w rs ts n place (omega (arith, less, up)) ∙ repeats
     ∙ ap repeated_byte (sym (bytes_at w rs ts n (place - w) (omega (arith, less, up)))))
     (is.noted place later (omega (arith, less, up)))

@@ -5,7 +5,7 @@ use Rattle.design_circuit.specs.Job.{Job, places_of}
 use Rattle.wave_bytes.specs.Byte.{repeated_byte}
 use Rattle.wave_bytes.specs.Kept.{AreRowsOf}
 use Rattle.wave_bytes.specs.Repeat.{AreRepeated, IsStretch}
-use Rattle.wave_bytes.specs.Roots.{IsRooted}
+use Rattle.wave_bytes.specs.Roots.{HasRoot}
 use Rattle.wave_bytes.specs.Rows.{HasRoom, IsRowStretch, RowsView, and_again, and_byte}
 
 -- They have room for all places.
@@ -38,12 +38,12 @@ pub rows_again : (j : Job) (old new : RowsView) (many : ℕ) → AreRowsOf j old
 rows_again j old new many are is = record {
   width = ap (λ (v : RowsView). v.width) is ∙ are.width;
   steps = ap (λ (v : RowsView). v.steps) is ∙ are.steps;
-  roots = λ p low. subst (λ rs. IsRooted j rs p) (sym (ap (λ (v : RowsView). v.roots) is)) (are.roots p low);
+  roots = λ p low. subst (λ rs. HasRoot j rs p) (sym (ap (λ (v : RowsView). v.roots) is)) (are.roots p low);
 }
 
 pub rows_one : (j : Job) (old new : RowsView) (byte : ℕ) → AreRowsOf j old → new ≡ and_byte old byte → AreRowsOf j new
 rows_one j old new byte are is = record {
   width = ap (λ (v : RowsView). v.width) is ∙ are.width;
   steps = ap (λ (v : RowsView). v.steps) is ∙ are.steps;
-  roots = λ p low. subst (λ rs. IsRooted j rs p) (sym (ap (λ (v : RowsView). v.roots) is)) (are.roots p low);
+  roots = λ p low. subst (λ rs. HasRoot j rs p) (sym (ap (λ (v : RowsView). v.roots) is)) (are.roots p low);
 }

@@ -9,7 +9,7 @@ use Rattle.law_model.specs.Class.{before, class_of}
 use Rattle.law_model.specs.declared.class.ClassByNumber.{ClassByNumber}
 use Rattle.law_quiet.specs.OfClass.{AgreeBefore, AllKeep, AreFacts, Facts, facts_by}
 use Rattle.wave_bytes.specs.Byte.{facts_in, written_of_byte}
-use Rattle.wave_bytes.specs.Roots.{IsRooted}
+use Rattle.wave_bytes.specs.Roots.{HasRoot}
 use Rattle.wave_bytes.specs.Rows.{RowsView}
 use Rattle.wave_bytes.specs.View.{next_class}
 
@@ -49,7 +49,7 @@ IsNextClass circuit bytes next = next ≡ next_class (job_in circuit) (map writt
 pub record AreRowsOf (j : Job) (rows : RowsView) : Type 0 where
   pub width : rows.width ≡ j.width
   pub steps : rows.steps ≡ j.moments * j.rounds
-  pub roots : (position : ℕ) → position < j.width → IsRooted j rows.roots position
+  pub roots : (position : ℕ) → position < j.width → HasRoot j rows.roots position
 
 -- Bytes are others with the byte of a place behind, which says what is written there, and they are kept as those were.
 pub record IsWrittenBehind (j : Job) (old new : List ℕ) (written : Written) : Type 0 where

@@ -125,8 +125,8 @@ pub record AreRows (width steps count : ℕ) (front : Front) (roots : List ℕ) 
 abbrev pub IsNoted : List Anew → ℕ → Type 0
 IsNoted log place = (k : ℕ) × (k < length log) × (anew_number (nth_anew log k) ≡ place)
 
-abbrev pub IsAgain : ℕ → List ℕ → List (List Entry) → ℕ → Type 0
-IsAgain width roots tracks place =
+abbrev pub IsWrittenAgain : ℕ → List ℕ → List (List Entry) → ℕ → Type 0
+IsWrittenAgain width roots tracks place =
     byte_there width roots tracks place ≡ repeated_byte (byte_there width roots tracks (place - width))
 
 pub record AreNoted (width count : ℕ) (roots : List ℕ) (tracks : List (List Entry)) (log : List Anew) : Type 0 where
@@ -134,7 +134,7 @@ pub record AreNoted (width count : ℕ) (roots : List ℕ) (tracks : List (List 
   pub reached : (i : ℕ) → i < length log → anew_number (nth_anew log i) < count
   pub bytes : (i : ℕ) → i < length log
       → anew_byte (nth_anew log i) ≡ byte_there width roots tracks (anew_number (nth_anew log i))
-  pub noted : (place : ℕ) → width ≤ place → place < count → IsNoted log place ⊎ IsAgain width roots tracks place
+  pub noted : (place : ℕ) → width ≤ place → place < count → IsNoted log place ⊎ IsWrittenAgain width roots tracks place
 
 -- The bytes of the places from a number up to another are those a row before, written again.
 abbrev pub AreAgain : RowsView → ℕ → ℕ → Type 0
