@@ -1,6 +1,7 @@
 //! Lines joined to a content.
 
 use crate::line::Line;
+use itoa::Buffer;
 use std::alloc::{AllocError, Global};
 use std::str;
 
@@ -9,9 +10,9 @@ fn number_of(digits: &[u8]) -> Option<u64> {
     str::from_utf8(digits).ok()?.parse::<u64>().ok()
 }
 
-/// The count and the text of a line `repeat COUNT TEXT`.
-fn repeated(line: Line<'_>) -> Option<(u64, &[u8])> {
-    let rest = line.behind(b"repeat ")?;
+/// The count and the text of a line that begins with a word, as `repeat COUNT TEXT`.
+fn counted<'a>(line: Line<'a>, word: &[u8]) -> Option<(u64, &'a [u8])> {
+    let rest = line.behind(word)?;
     let space = rest.iter().position(|byte| *byte == b' ')?;
     Some((number_of(&rest[..space])?, &rest[space + 1..]))
 }
@@ -36,11 +37,32 @@ pub(crate) fn put_line(content: &mut Vec<u8>, line: Line<'_>) -> Result<(), Allo
     if let Some(numbers) = line.behind(b"bytes ") {
         return put_bytes(content, numbers);
     }
-    let Some((count, text)) = repeated(line) else {
-        return content.extend_from_slice(line.text);
-    };
+    if let Some((count, text)) = counted(line, b"repeat ") {
+        return put_repeated(content, count, text);
+    }
+    match counted(line, b"number ") {
+        Some((count, text)) => put_numbered(content, count, text),
+        None => content.extend_from_slice(line.text),
+    }
+}
+
+/// Puts a text so many times.
+fn put_repeated(content: &mut Vec<u8>, count: u64, text: &[u8]) -> Result<(), AllocError> {
     for _ in 0..count {
         content.extend_from_slice(text)?;
+    }
+    Ok(())
+}
+
+/// Puts so many lines, each a text and its number, from 1.
+fn put_numbered(content: &mut Vec<u8>, count: u64, text: &[u8]) -> Result<(), AllocError> {
+    let mut digits = Buffer::new();
+    for place in 0..count {
+        if place > 0 {
+            content.push(b'\n')?;
+        }
+        content.extend_from_slice(text)?;
+        content.extend_from_slice(digits.format(place + 1).as_bytes())?;
     }
     Ok(())
 }

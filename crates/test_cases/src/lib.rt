@@ -26,7 +26,8 @@
 //! refused: cannot read r.vcd
 //! ```
 //!
-//! In both a line `repeat 1000 {` stands for a line of 1,000 braces, and `bytes 127 9` for a line of these two bytes.
+//! In both a line `repeat 1000 {` stands for a line of 1,000 braces, `number 1000 #` for the lines `#1` to `#1000`, and
+//! `bytes 127 9` for a line of these two bytes.
 //!
 //! ```text
 //! fn main(rt: HostRuntime) -> io::Result<()> {
