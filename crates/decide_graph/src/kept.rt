@@ -1,6 +1,8 @@
 //! Nodes as they are kept: what all of them read in one list, and the values of all their tables in another.
 
 ghost use Rattle.std.specs.Prelude.{◌≡◌, ◌<◌, ◌≤◌, ◌^◌, ◌++◌, ◌∷◌, [], IfOk, OnErr, OnOk, length};
+ghost use Rattle.std.specs.List.{list_any};
+ghost use Rattle.design_cell.specs.Value.{is_unknown};
 ghost use Rattle.decide_nodes.specs.Nodes.{node_at};
 ghost use Rattle.decide_graph.specs.Kept.{node_of, ruled_node};
 
@@ -29,6 +31,25 @@ pub struct KeptNode<'a> {
     pub place: Place,
     pub arguments: &'a [u32],
     pub values: &'a [Value],
+}
+
+impl<'a> KeptNode<'a> {
+    ghost use Rattle.decide_nodes.specs.Nodes.{is_source_node};
+
+    /// Whether it is a source: its table has x somewhere.
+    pub fn is_source(&self) -> bool
+        ensures { result ≡ is_source_node (node_of self.now) }
+    {
+        any_unknown(self.values)
+    }
+}
+
+fn any_unknown(values: &[Value]) -> bool
+    ensures { result ≡ list_any is_unknown values.now }
+{
+    values
+        .iter()
+        .any(|value| matches!(*value, Value::X | Value::Z))
 }
 
 /// Nodes by number, none of a carried place. Contracts see them in order. Takes 24 bytes a node, 4 for each node that

@@ -1,8 +1,6 @@
 //! Codes of tables, and what a table says as implications.
 
-ghost use Rattle.std.specs.Prelude.{◌≡◌, IfOk, OnOk};
-ghost use Rattle.std.specs.List.{list_any};
-ghost use Rattle.design_cell.specs.Value.{is_unknown};
+ghost use Rattle.std.specs.Prelude.{IfOk, OnOk};
 ghost use Rattle.decide_choices.specs.Choices.{HasTable};
 ghost use Rattle.decide_guess.specs.Codes.{AddsChoices, AreImplications};
 
@@ -36,15 +34,6 @@ fn mixed(number: u64) -> u64 {
     let b = (a ^ (a >> 30)).wrapping_mul(0xbf58_476d_1ce4_e5b9);
     let c = (b ^ (b >> 27)).wrapping_mul(0x94d0_49bb_1331_11eb);
     c ^ (c >> 31)
-}
-
-/// Whether a table has x.
-pub(crate) fn has_x(values: &[Value]) -> bool
-    ensures { result ≡ list_any is_unknown values.now }
-{
-    values
-        .iter()
-        .any(|value| matches!(*value, Value::X | Value::Z))
 }
 
 /// The minimal choices of a table, and the bits that they force. Takes 6 bytes for each, and what these take to be

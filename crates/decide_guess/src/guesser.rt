@@ -8,7 +8,7 @@ ghost use Rattle.decide_guess.specs.Guess.{IsGuess, IsSourceIn};
 ghost use Rattle.decide_justify.specs.Search.{clauses_allowed};
 ghost use Rattle.decide_justify.specs.Step.{HasAtMost};
 
-use crate::codes::{code_of, has_x, implications_of};
+use crate::codes::{code_of, implications_of};
 use crate::guess::Guess;
 use base_lists::Memory;
 use decide_graph::Graph;
@@ -90,7 +90,7 @@ impl Guesser {
         let node = graph.node(place);
         let table = self.table_of(alloc, node.values)?;
         self.search
-            .give(number, node.arguments, table, has_x(node.values))
+            .give(number, node.arguments, table, node.is_source())
     }
 
     /// A table of the search, which comes in where it isn't known.
@@ -130,9 +130,10 @@ fn sources_in(alloc: Global, graph: &Graph, nodes: &[u32]) -> Result<Vec<u32>, M
     Ok(sources)
 }
 
-fn is_source(graph: &Graph, number: u32) -> bool
+/// Whether a node is a source of a graph.
+pub fn is_source(graph: &Graph, number: u32) -> bool
     ensures { IsTrue result ↔ IsSourceIn graph.now number }
 {
     let place = number as usize;
-    place < graph.len() && has_x(graph.node(place).values)
+    place < graph.len() && graph.node(place).is_source()
 }

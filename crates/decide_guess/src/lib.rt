@@ -14,5 +14,5 @@ mod guesser;
 mod renamed;
 
 pub use guess::{Guess, NodeBit};
-pub use guesser::Guesser;
+pub use guesser::{Guesser, is_source};
 pub use renamed::{given_by, log_of};

@@ -1,9 +1,6 @@
 //! The bits of a node in all lanes, from those of the nodes that it reads: as a sum of products, by its minimal
 //! choices.
 
-ghost use Rattle.std.specs.Prelude.{◌≡◌};
-ghost use Rattle.std.specs.List.{list_any};
-ghost use Rattle.design_cell.specs.Value.{is_unknown};
 ghost use Rattle.decide_choices.specs.Choices.{HasTable};
 
 use crate::entry::Entry;
@@ -12,8 +9,7 @@ use crate::pool_bits::PoolBits;
 use crate::reads::{item_at, narrow, set_item};
 use base_lists::Memory;
 use decide_choices::Choice;
-use decide_graph::Graph;
-use design_cell::Value;
+use decide_graph::{Graph, KeptNode};
 use std::alloc::Global;
 
 impl Pool {
@@ -144,15 +140,20 @@ impl Pool {
         if entry.pass != 0 || number >= graph.len() {
             return Ok(entry);
         }
-        self.read_table(alloc, graph.node(number).values, entry)
+        self.read_table(alloc, graph.node(number), entry)
     }
 
-    /// An entry with a table, and given bits if that has x.
-    fn read_table(&mut self, alloc: Global, values: &[Value], entry: Entry) -> Result<Entry, Memory>
-        requires { HasTable values.now }
+    /// An entry with the table of a node, and given bits if that is a source.
+    fn read_table(
+        &mut self,
+        alloc: Global,
+        node: KeptNode<'_>,
+        entry: Entry,
+    ) -> Result<Entry, Memory>
+        requires { HasTable node.values.now }
     {
-        let table = self.tables.number_of(alloc, values)?;
-        let given = if has_x(values) { self.give()? } else { 0 };
+        let table = self.tables.number_of(alloc, node.values)?;
+        let given = if node.is_source() { self.give()? } else { 0 };
         Ok(Entry {
             table,
             given,
@@ -204,13 +205,4 @@ impl Pool {
         }
         all
     }
-}
-
-/// Whether a table has x.
-pub(crate) fn has_x(values: &[Value]) -> bool
-    ensures { result ≡ list_any is_unknown values.now }
-{
-    values
-        .iter()
-        .any(|value| matches!(*value, Value::X | Value::Z))
 }

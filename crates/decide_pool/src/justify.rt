@@ -1,17 +1,17 @@
 //! Which sources a node rests on in a lane: a walk down from it, at each node by one minimal choice that holds there.
 
-ghost use Rattle.std.specs.Prelude.{◌↔◌, IfOk, IsTrue};
+ghost use Rattle.std.specs.Prelude.{IfOk};
 ghost use Rattle.std.specs.List.{All};
 ghost use Rattle.decide_guess.specs.Guess.{IsSourceIn};
 
 use crate::entry::Entry;
-use crate::evaluate::has_x;
 use crate::pool::Pool;
 use crate::pool_bits::PoolLane;
 use crate::reads::set_item;
 use base_lists::Memory;
 use decide_choices::Choice;
 use decide_graph::Graph;
+use decide_guess::is_source;
 use std::alloc::Global;
 
 /// What is known of the nodes that a node reads, by marks: argument k has the mark 2^k. Those that have 1 in the lane,
@@ -160,12 +160,4 @@ fn cheaper(marks: Marks, choice: Choice, before: Option<Choice>) -> Choice {
         Some(best) if marks.cost(best) <= marks.cost(choice) => best,
         _ => choice,
     }
-}
-
-/// Whether a node is a source of a graph.
-fn is_source(graph: &Graph, number: u32) -> bool
-    ensures { IsTrue result ↔ IsSourceIn graph.now number }
-{
-    let place = number as usize;
-    place < graph.len() && has_x(graph.node(place).values)
 }

@@ -1,18 +1,23 @@
 -- Tables that are right of a graph.
-use Rattle.std.proofs.Common.{◌≡◌, ℕ, zero, suc, ◌+◌, ◌*◌, ◌<◌, ◌≤◌, Bool, List, [], ◌∷◌, ◌++◌, length, refl, sym, ap, ◌∙◌, subst, arith, length-append, slice_index, slice_index_or, take}
-use Rattle.std.specs.List.{AllByRecursion}
+use Rattle.std.proofs.Common.{◌≡◌, ℕ, zero, suc, ◌+◌, ◌*◌, ◌^◌, ◌<◌, ◌≤◌, ◌⊎◌, inl, inr, Bool, true, false, List, [], ◌∷◌, ◌++◌, length, refl, sym, ap, ◌∙◌, subst, arith, length-append, slice_index, slice_index_or, take}
+use Rattle.std.specs.List.{AllByRecursion, list_any}
+use Rattle.std.proofs.lemmas.Bool.{cases_Bool}
 use Rattle.design_cell.specs.declared.value.Value.{Value}
 use Rattle.design_circuit.specs.declared.place.Place.{Place}
 use Rattle.law_model.specs.Mask.{mask_of}
 use Rattle.decide_nodes.specs.declared.node.Node.{Node}
 use Rattle.decide_nodes.specs.Choice.{number_at, value_at}
 use Rattle.decide_nodes.specs.Lanes.{HasLanes, in_lane}
+use Rattle.design_cell.specs.declared.value.Value.TheVariants.{X}
+use Rattle.design_cell.specs.Value.{is_unknown}
+use Rattle.design_circuit.proofs.Worlds.{decided_known}
 use Rattle.decide_nodes.specs.Nodes.{is_listed, node_at}
 use Rattle.decide_nodes.proofs.ChosenLanes.{number_is}
+use Rattle.decide_nodes.proofs.NodeSources.{table_known}
 use Rattle.decide_graph.proofs.GraphBits.{graph_stays, graph_table}
 use Rattle.decide_graph.specs.Bits.{graph_bit}
 use Rattle.decide_graph.specs.Kept.{ruled_node}
-use Rattle.decide_tables.specs.Evaluated.{AreFoundBlocks}
+use Rattle.decide_tables.specs.Evaluated.{AreFoundBlocks, HasOwnLanes}
 use Rattle.decide_tables.specs.Tables.{AreAllOf, HasBlock, HasTable, IsTableOf, NodeTable, StayLaw, filling_by, no_table}
 
 -- A table that is one of those that are right is right.
@@ -54,15 +59,16 @@ pub block_right : (graph : List Node) (list : List Place) (tables : List NodeTab
     → AreAllOf graph list tables → node_at graph node ≡ ruled_node place arguments values
     → AllByRecursion (λ a. a < node) arguments → length arguments ≤ length given
     → AreFoundBlocks tables arguments block given (length arguments)
-    → HasLanes own (λ lane. is_listed (filling_by list (256 * block + lane)) place)
+    → length values ≡ 2 ^ length arguments
+    → (list_any is_unknown values ≡ true → HasOwnLanes list place block own)
     → HasLanes lane_bits (λ lane. value_at values (number_at (take (length arguments) given) lane) (in_lane own lane))
     → HasBlock graph list node block lane_bits
-block_right graph list tables node block place arguments values given own lane_bits right is before few found owns has
-    lane less =
+block_right graph list tables node block place arguments values given own lane_bits right is before few found long owns
+    has lane less =
     has lane less
     ∙ ap (λ n. value_at values n (in_lane own lane)) (number_is arguments given bits lane few read)
-    ∙ ap (value_at values (mask_of arguments bits))
-    (owns lane less ∙ ap (λ (n : Node). is_listed filling n.place) (sym is))
+    ∙ own_same (cases_Bool (list_any is_unknown values))
+    ∙ ap (λ (n : Node). value_at values (mask_of arguments bits) (is_listed filling n.place)) (sym is)
     ∙ sym (graph_table graph filling node arguments values (ap (λ (n : Node). n.body) is) before)
   where
     filling : List Place
@@ -70,6 +76,14 @@ block_right graph list tables node block place arguments values given own lane_b
 
     bits : ℕ → Bool
     bits = graph_bit graph filling
+
+    -- What own lanes have makes no difference where no value is x.
+    own_same : (list_any is_unknown values ≡ true) ⊎ (list_any is_unknown values ≡ false)
+        → value_at values (mask_of arguments bits) (in_lane own lane)
+        ≡ value_at values (mask_of arguments bits) (is_listed filling place)
+    own_same (inl some) = ap (value_at values (mask_of arguments bits)) (owns some lane less)
+    own_same (inr none) = decided_known (slice_index_or values (mask_of arguments bits) X) (in_lane own lane)
+        (is_listed filling place) (table_known arguments values bits long none)
 
     read : (k : ℕ) → k < length arguments
         → in_lane (slice_index_or given k []) lane ≡ bits (slice_index arguments k)

@@ -1,10 +1,11 @@
 //! The table of a node, block by block, from the tables of the nodes that it reads.
 
-ghost use Rattle.std.specs.Prelude.{◌≡◌, ◌+◌, ◌*◌, ◌<◌, ◌≤◌, ◌&&◌, IfOk, IfSome, IsTrue, length};
+ghost use Rattle.std.specs.Prelude.{◌≡◌, ◌+◌, ◌*◌, ◌<◌, ◌≤◌, ◌&&◌, true, IfOk, IfSome, IsTrue, length};
+ghost use Rattle.decide_graph.specs.Kept.{node_of};
 ghost use Rattle.decide_nodes.specs.Lanes.{HasLanes};
-ghost use Rattle.decide_nodes.specs.Nodes.{is_listed, is_same_place, number_bits};
-ghost use Rattle.decide_tables.specs.Evaluated.{AreFirstBlocks, AreFoundBlocks, IsFoundBlock};
-ghost use Rattle.decide_tables.specs.Tables.{AreAllOf, HasBlock, filling_by};
+ghost use Rattle.decide_nodes.specs.Nodes.{is_same_place, is_source_node, number_bits};
+ghost use Rattle.decide_tables.specs.Evaluated.{AreFirstBlocks, AreFoundBlocks, HasOwnLanes, IsFoundBlock};
+ghost use Rattle.decide_tables.specs.Tables.{AreAllOf, HasBlock};
 
 use crate::kept::KeptTables;
 use base_lists::Memory;
@@ -56,7 +57,7 @@ fn block_lanes(
     if !read_blocks(tables, kept.arguments, block, &mut given) {
         return None;
     }
-    let own = listed_lanes(list, kept.place, block);
+    let own = own_lanes(list, &kept, block);
     let arguments = &given[..kept.arguments.len()];
     Some(table_lanes(arguments, kept.values, own))
 }
@@ -86,10 +87,23 @@ fn block_at(tables: &KeptTables, node: usize, block: usize) -> Option<LaneBits>
     }
 }
 
+/// In each lane of a block whether the filling of its number lists the place of a node. That counts at sources alone, so
+/// for any other node nothing is looked for.
+fn own_lanes(list: &[Place], kept: &KeptNode<'_>, block: usize) -> LaneBits
+    requires { length list.now ≤ 16 }
+    ensures { is_source_node (node_of kept.now) ≡ true → HasOwnLanes list.now kept.now.place block result }
+{
+    if kept.is_source() {
+        listed_lanes(list, kept.place, block)
+    } else {
+        LaneBits::zeros()
+    }
+}
+
 /// In each lane of a block whether the filling of its number lists a place.
 fn listed_lanes(list: &[Place], place: Place, block: usize) -> LaneBits
     requires { length list.now ≤ 16 }
-    ensures { HasLanes result (λ lane. is_listed (filling_by list.now (256 * block + lane)) place) }
+    ensures { HasOwnLanes list.now place block result }
 {
     let mut lanes = LaneBits::zeros();
     'sources: for source in 0..list.len() {

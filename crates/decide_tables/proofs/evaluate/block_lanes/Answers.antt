@@ -12,6 +12,6 @@ returns c =
     let few = stands.few in
     let long = c.read_blocks.ensures.long in
     block_right c.args.graph.now c.args.list.now c.args.tables.now c.args.node c.args.block kept.place arguments
-    kept.values.now full c.listed_lanes-own.result c.table_lanes.result c.requires.right c.node-kept.ensures.node
-    stands.before (omega (arith, few, long)) (c.read_blocks.ensures.all c.if-not-read_blocks.false)
-    c.listed_lanes-own.ensures c.table_lanes.ensures
+    kept.values.now full c.own_lanes-own.result c.table_lanes.result c.requires.right c.node-kept.ensures.node
+    stands.before (omega (arith, few, long)) (c.read_blocks.ensures.all c.if-not-read_blocks.false) stands.long
+    c.own_lanes-own.ensures c.table_lanes.ensures
