@@ -64,7 +64,7 @@ Stands form start done walked =
 
 -- What helps to find cones is right of the wave.
 abbrev pub IsRight : Course → Type 0
-IsRight course = AreRightOf course.wave course.cones
+IsRight course = AreRightOf course.wave course.cones.value
 
 -- It waits for a line: the next place is a Line place or there is none, or a turn is due.
 abbrev pub Waits : Contents → Option ConditionView → Type 0

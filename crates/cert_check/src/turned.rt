@@ -1,7 +1,8 @@
 //! The turns behind the line of a certain place.
 
-ghost use Rattle.std.specs.Prelude.{◌≡◌, ◌<◌, [], IfErr, IfOk, Some as ASome};
-ghost use Rattle.cert_turns.specs.Conditions.{IsCertainLine};
+ghost use Rattle.std.specs.Prelude.{◌≡◌, ◌<◌, [], IfErr, IfOk, OnOk, Some as ASome};
+ghost use Rattle.cert_turns.specs.Conditions.{IsCertainLine, IsConditionAt};
+ghost use Rattle.cert_turns.specs.OfCone.{AreRightOf};
 ghost use Rattle.cert_writer.specs.declared.cert.Form.{Form as AForm};
 ghost use Rattle.cert_check.specs.Standing.{ComesAmid, ComesBehind, EndsAmid, EndsBehind, IsRight, IsWaiting};
 ghost use Rattle.cert_check.specs.Standing.{StopsAt, Takes};
@@ -9,10 +10,12 @@ ghost use Rattle.cert_check.specs.Standing.{StopsAt, Takes};
 use crate::lines::walk_on;
 use crate::refusal::{CertFault, CheckErr};
 use crate::walked::{Course, Walked};
-use cert_turns::{Condition, begin_at, take_turn};
+use base_lists::Memory;
+use cert_turns::{Condition, Cones, begin_at, take_turn};
 use cert_writer::Entry;
 use design_circuit::Place;
 use std::alloc::Global;
+use wave_proved::Wave;
 
 /// Takes a line where a turn is due.
 pub fn take_turned<'a>(
@@ -57,7 +60,7 @@ pub fn begin_turns<'a>(
         conditions,
         mut cones,
     } = course;
-    match begin_at(alloc, &wave, &mut cones.tracer, place) {
+    match begin_with(alloc, &wave, &mut cones, place) {
         Ok(condition) => {
             let next = Course {
                 wave,
@@ -68,6 +71,22 @@ pub fn begin_turns<'a>(
         }
         Err(_) => Err(CheckErr::Memory),
     }
+}
+
+/// The condition of the place, with no turn made.
+fn begin_with(
+    alloc: Global,
+    wave: &Wave<'_>,
+    cones: &mut Cones,
+    place: Place,
+) -> Result<Condition, Memory>
+    requires settled { IsCertainLine wave.now place }
+    requires right { AreRightOf wave.now cones.old }
+    ensures condition { IfOk result (IsConditionAt wave.now place) }
+    ensures none { IfOk result (λ condition. condition.turns ≡ []) }
+    ensures right { OnOk result (AreRightOf wave.now cones.new) }
+{
+    begin_at(alloc, wave, &mut cones.tracer, place)
 }
 
 /// Waits for the next turn of a condition, or goes on where none is due.

@@ -5,6 +5,7 @@ ghost use Rattle.design_circuit.specs.Fits.{place_at};
 ghost use Rattle.wave_proved.specs.Advance.{IsPlain};
 ghost use Rattle.wave_proved.specs.Contents.{Contents, job, next_number, next_seen};
 ghost use Rattle.wave_proved.specs.Token.{HasNext};
+ghost use Rattle.cert_turns.specs.OfCone.{AreRightOf};
 ghost use Rattle.cert_check.specs.declared.refusal.CertFault.TheVariants.{Missing};
 ghost use Rattle.cert_check.specs.declared.refusal.CheckErr.TheVariants.{Refused};
 ghost use Rattle.cert_check.specs.Standing.{EndsShort, EndsWell, Finishes, IsDone, IsRight, IsWaiting, Lacks, Stands};
@@ -16,7 +17,7 @@ use crate::lines::{take_line, walk_on};
 use crate::refusal::{CertFault, CheckErr};
 use crate::turned::take_turned;
 use crate::walked::{Course, Walked};
-use base_lists::Items;
+use base_lists::{Items, Memory};
 use cert_turns::{Condition, Cones};
 use cert_writer::{Entry, Form};
 use design_circuit::count_places;
@@ -35,7 +36,7 @@ pub fn walk<'a>(
     ensures stops { IfErr result (IsFirstCertFault form wave.entry entries.items) }
 {
     wave.recall();
-    match Cones::new(alloc) {
+    match new_cones(alloc) {
         Ok(cones) => {
             let course = Course {
                 wave,
@@ -49,6 +50,14 @@ pub fn walk<'a>(
         }
         Err(_) => Err(CheckErr::Memory),
     }
+}
+
+/// Of no place anything is known.
+fn new_cones(alloc: Global) -> Result<Box<Cones>, Memory>
+    ensures { IfOk result (λ cones. (c : Contents) → AreRightOf c cones.value) }
+{
+    let cones = Cones::new(alloc)?;
+    Ok(Box::new(alloc, cones)?)
 }
 
 /// The same from where it waits for the first of them.

@@ -16,7 +16,7 @@ returns-clause-ok c form start done stands =
 pub returns-clause-waits : goal.returns-clause-waits
 returns-clause-waits c = record {
   waits = c.in_ok-next.ensures.ok.stops;
-  right = right_on c.args.course.wave _ c.args.course.cones c.recall.ensures c.in_ok-next.ensures.ok.goes c.requires;
+  right = right_on c.args.course.wave _ c.args.course.cones.value c.recall.ensures c.in_ok-next.ensures.ok.goes c.requires;
 }
 
 pub returns-in_err-next-clause-err : goal.returns-in_err-next-clause-err

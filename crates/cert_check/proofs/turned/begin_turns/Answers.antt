@@ -14,9 +14,6 @@ returns-in-Ok-clause-ok c =
     c.in-Ok.ensures.condition behind))
     c.take_up.ensures.ok
 
-pub take_up-requires : goal.take_up-requires
-take_up-requires c = record { tracer = c.in-Ok.ensures.right; lanes = c.requires.right.lanes }
-
 pub returns-in-Ok-clause-err : goal.returns-in-Ok-clause-err
 returns-in-Ok-clause-err c =
     IfErr-weaker c.take_up.result (EndsAmid c.args.course.wave c.args.course.conditions.items c.in-Ok.condition)

@@ -14,8 +14,8 @@ returns-in-Ok-walk_on-clause-done c =
     → IsDone c.args.form start c.args.entries.items checked.wave checked.conditions) _
     (λ checked done. done c.args.wave
     (c.in-Ok-walk_on.ensures.ok c.args.form c.args.wave []
-    (begins_between c.args.form c.args.wave c.new-in-Ok.result.items c.recall.ensures c.requires
-    c.new-in-Ok.ensures.items)))
+    (begins_between c.args.form c.args.wave c.new.result.items c.recall.ensures c.requires
+    c.new.ensures.items)))
     c.take_entries.ensures.done
 
 pub returns-in-Ok-walk_on-clause-stops : goal.returns-in-Ok-walk_on-clause-stops
@@ -25,15 +25,15 @@ returns-in-Ok-walk_on-clause-stops c =
     → IsFirstCertFault c.args.form start c.args.entries.items e) _
     (λ e stops. stops c.args.wave
     (c.in-Ok-walk_on.ensures.ok c.args.form c.args.wave []
-    (begins_between c.args.form c.args.wave c.new-in-Ok.result.items c.recall.ensures c.requires
-    c.new-in-Ok.ensures.items)))
+    (begins_between c.args.form c.args.wave c.new.result.items c.recall.ensures c.requires
+    c.new.ensures.items)))
     c.take_entries.ensures.stops
 
 pub returns-in-Ok-clause-stops : goal.returns-in-Ok-clause-stops
 returns-in-Ok-clause-stops c =
     c.in-Err-walk_on.ensures.err c.args.form c.args.wave [] c.args.entries.items
-    (begins_between c.args.form c.args.wave c.new-in-Ok.result.items c.recall.ensures c.requires
-    c.new-in-Ok.ensures.items)
+    (begins_between c.args.form c.args.wave c.new.result.items c.recall.ensures c.requires
+    c.new.ensures.items)
 
 pub returns-clause-stops : goal.returns-clause-stops
 returns-clause-stops c = no_memory
