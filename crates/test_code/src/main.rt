@@ -27,12 +27,15 @@
 //! - `> code`: the text that is written for `< events`, as above. It then is the code, so that `> events` reads it again.
 //! - `> texts`: texts of code with `ok`, or a caret under the byte that is refused and the words, as `test_cases` has them.
 //! - `> cuts`: what the code comes to where it is cut after so many bytes, `FIRST-LAST: AT WORDS` or `FIRST-LAST: ok`.
+//!
+//! A file in the folder `made` has made jobs; `made.rt` says how.
 #![tactic(auto)]
 
 mod case;
 mod cuts;
 mod events;
 mod job;
+mod made;
 mod moments;
 mod scoped;
 mod texts;
@@ -48,10 +51,17 @@ fn main(rt: HostRuntime) -> io::Result<()> {
     for name in env::args(&rt)?.skip(1) {
         let text = fs::read(&rt, name.as_str())?;
         let mut report = Report::new(rt.alloc(), name.as_str())?;
-        run_sections(rt.alloc(), &mut report, text.as_slice()).map_err(|_| AllocError)?;
+        run_file(rt.alloc(), &mut report, name.as_str(), text.as_slice()).map_err(|_| AllocError)?;
         rt.print(report)?;
     }
     Ok(())
+}
+
+fn run_file(alloc: Global, report: &mut Report, name: &str, text: &[u8]) -> Result<(), Memory> {
+    if name.starts_with("made/") {
+        return made::run_file(alloc, report, text);
+    }
+    run_sections(alloc, report, text)
 }
 
 fn run_sections(alloc: Global, report: &mut Report, text: &[u8]) -> Result<(), Memory> {

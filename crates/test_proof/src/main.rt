@@ -12,6 +12,8 @@
 //! log 1 1 0 -1 0 -> clauses 1 literals 0
 //! every 5 2 1000 -> 412 models, 875 refuted, 0 at the limit
 //! ```
+//!
+//! A file in the folder `texts` has formulas and logs as DIMACS texts; `texts.rt` says how.
 #![tactic(auto)]
 
 mod answer;
@@ -20,8 +22,10 @@ mod dimacs;
 mod families;
 mod logs;
 mod searches;
+mod texts;
 
 use case::run_case;
+use std::alloc::AllocError;
 use std::{env, fs, io};
 use test_cases::{Lines, Report};
 
@@ -29,12 +33,22 @@ fn main(rt: HostRuntime) -> io::Result<()> {
     for name in env::args(&rt)?.skip(1) {
         let text = fs::read(&rt, name.as_str())?;
         let mut report = Report::new(rt.alloc(), name.as_str())?;
-        for line in Lines::new(text.as_slice()) {
-            if !line.is_idle() {
-                run_case(&rt, &mut report, line)?;
-            }
+        match name.as_str().strip_prefix("texts/") {
+            Some(name) => texts::run_file(rt.alloc(), &mut report, name, text.as_slice()).map_err(
+                |_| AllocError,
+            )?,
+            None => run_lines(&rt, &mut report, text.as_slice())?,
         }
         rt.print(report)?;
+    }
+    Ok(())
+}
+
+fn run_lines(rt: &HostRuntime, report: &mut Report, text: &[u8]) -> io::Result<()> {
+    for line in Lines::new(text) {
+        if !line.is_idle() {
+            run_case(rt, report, line)?;
+        }
     }
     Ok(())
 }

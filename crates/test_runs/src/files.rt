@@ -4,16 +4,8 @@ use crate::case::run_case;
 use crate::given::Case;
 use crate::program::Program;
 use std::alloc::{AllocError, Global};
-use std::{env, fs, io};
+use std::{fs, io};
 use test_cases::{Report, section_cases, shared};
-
-/// Runs the cases of each file that the words name, and prints how many came as wanted.
-pub fn run_files<P: Program>(rt: &HostRuntime) -> io::Result<()> {
-    for name in env::args(rt)?.skip(1) {
-        run_file::<P>(rt, name.as_str())?;
-    }
-    Ok(())
-}
 
 /// Runs the cases of a file, and prints how many came as wanted.
 pub fn run_file<P: Program>(rt: &HostRuntime, name: &str) -> io::Result<()> {
