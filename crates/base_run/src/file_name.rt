@@ -4,7 +4,7 @@ ghost use Rattle.std.specs.Prelude.{◌≡◌};
 ghost use Rattle.base_run.specs.Names.{text_of_name};
 
 /// The name of a file.
-#[derive(Debug, Drop)]
+#[derive(Drop)]
 pub enum FileName<'a> {
     /// One of the words.
     Word(&'a str),

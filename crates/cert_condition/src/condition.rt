@@ -20,7 +20,7 @@ use std::marker;
 
 /// The condition of a certain place, under way. Its list begins with all certain boundary places; each that is due is
 /// left out in its turn, in place order, and stays out where that turn drops it.
-#[derive(Debug, Drop)]
+#[derive(Drop)]
 pub struct Condition {
     place: Place,
     boundary: Vec<Place>,

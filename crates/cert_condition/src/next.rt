@@ -8,7 +8,7 @@ use sat_proof::{Clause, Cnf};
 
 /// The clauses of a cone, the unit clauses of a list without one of its places, and the denial; and the unit clause of
 /// that place.
-#[derive(Debug, Drop)]
+#[derive(Drop)]
 pub struct NextQuery {
     pub query: Cnf,
     pub cone: usize,

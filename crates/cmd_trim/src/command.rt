@@ -21,7 +21,7 @@ use std::alloc::Global;
 const TEXT_BYTES: usize = 1_073_741_824;
 
 /// The command with its words.
-#[derive(Clone, Copy, Debug)]
+#[derive(Clone, Copy)]
 pub struct Trim<'a> {
     pub words: TrimWords<'a>,
 }

@@ -12,7 +12,7 @@ use std::alloc::Global;
 use std::marker::Model;
 
 /// Lists of literals.
-#[derive(Debug, Drop)]
+#[derive(Drop)]
 pub struct Lists {
     lists: Vec<Literals>,
 }

@@ -3,7 +3,7 @@
 use decide_graph::TracedBody;
 
 /// A place of a cone by number, and what it rests on.
-#[derive(Debug, Drop)]
+#[derive(Drop)]
 pub struct Traced {
     pub place: usize,
     pub body: TracedBody,

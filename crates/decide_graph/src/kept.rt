@@ -54,7 +54,7 @@ fn any_unknown(values: &[Value]) -> bool
 
 /// Nodes by number, none of a carried place. Contracts see them in order. Takes 24 bytes a node, 4 for each node that
 /// it reads, and 1 a value.
-#[derive(Debug, Drop)]
+#[derive(Drop)]
 pub struct KeptNodes {
     entries: Vec<Entry>,
     arguments: Vec<u32>,

@@ -14,7 +14,7 @@ use std::alloc::Global;
 use wave_class::{ArgumentsByNumber, uncertain_places};
 
 /// What a place rests on, by the numbers of places.
-#[derive(Debug, Drop)]
+#[derive(Drop)]
 pub enum TracedBody {
     /// The place that it is carried from, or its complement where the second is true.
     Carried(usize, bool),

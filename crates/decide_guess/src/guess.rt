@@ -3,7 +3,7 @@
 pub use decide_justify::NodeBit;
 
 /// A guess about a node and a bit. Promised are the sources of a filling and the length of a log, and nothing else.
-#[derive(Debug, Drop)]
+#[derive(Drop)]
 pub enum Guess {
     /// The node has the bit where these sources, by their nodes, have 1 and all others 0.
     Filling(Vec<u32>),

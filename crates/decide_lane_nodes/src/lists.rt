@@ -17,7 +17,7 @@ pub struct Span {
 }
 
 /// Lists by number. Contracts see the lists. Takes 8 bytes a list, and 4 a place.
-#[derive(Debug, Drop)]
+#[derive(Drop)]
 pub struct Lists {
     spans: Vec<Span>,
     places: Vec<u32>,
@@ -84,7 +84,7 @@ impl Lists {
 }
 
 /// The number of a list, or none, in 4 bytes: they hold 0 for none, else one more than the number. Contracts see which.
-#[derive(Clone, Copy, Debug)]
+#[derive(Clone, Copy)]
 pub struct ListNumber {
     code: u32,
 }

@@ -86,7 +86,7 @@ pub fn constant(bit: bool) -> Literal
 }
 
 /// Places that have literals: the last ones, from a first one on, over some nodes.
-#[derive(Clone, Copy, Debug)]
+#[derive(Clone, Copy)]
 pub struct Covered<'t> {
     pub nodes: &'t Nodes,
     pub first: usize,

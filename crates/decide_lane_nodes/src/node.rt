@@ -24,7 +24,7 @@ use wave_proved::Wave;
 
 /// A node that is to come in: its place, its bits in the lanes, its sources, where they are kept, or a node that has
 /// the same ones, and for the graph the roots of its essential arguments and its table over these.
-#[derive(Debug, Drop)]
+#[derive(Drop)]
 pub struct Made {
     pub place: usize,
     pub lane_bits: LaneBits,

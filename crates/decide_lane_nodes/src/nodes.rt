@@ -12,7 +12,7 @@ use std::marker::Model;
 use std::mem::size_of;
 
 /// A place, its bits in the lanes, and which of the lists has its sources: 48 bytes.
-#[derive(Clone, Copy, Debug)]
+#[derive(Clone, Copy)]
 pub struct Node {
     lane_bits: LaneBits,
     place: usize,
@@ -27,7 +27,7 @@ const MOST_NODES: usize = 0x8000_0000;
 /// Nodes by number, of which the first has 0 in each lane. A node may share its list of sources with an earlier one.
 /// Contracts see for each node the place, the lanes and the list. Takes 48 bytes a node, and for each list that isn't
 /// shared 8 bytes and 4 a source.
-#[derive(Debug, Drop)]
+#[derive(Drop)]
 pub struct Nodes {
     nodes: Vec<Node>,
     lists: Lists,

@@ -13,7 +13,7 @@ use std::mem::swap;
 
 /// The row under way and the three whole rows before it, each with the positions at which it hasn't the literals of the
 /// row before it.
-#[derive(Debug, Drop)]
+#[derive(Drop)]
 pub struct Kept {
     three: Vec<Literal>,
     two: Vec<Literal>,
@@ -26,7 +26,7 @@ pub struct Kept {
 
 /// The literals of places: those of the row under way and of up to three whole rows before it. A row in which few
 /// literals move costs those alone. Contracts see how wide a row is, and the literals in place order.
-#[derive(Debug, Drop)]
+#[derive(Drop)]
 pub struct LiteralRows {
     width: usize,
     /// How many whole rows there are, up to three.

@@ -9,7 +9,7 @@ use decide_nodes::LaneBits;
 const DIGITS: usize = 11;
 
 /// A count for each lane: its digit d, from the lowest on, is the bit of the lane in digits[d].
-#[derive(Debug, Drop)]
+#[derive(Drop)]
 pub struct Counts {
     digits: [LaneBits; 11],
 }

@@ -15,7 +15,6 @@ use wave_proved::{Verdict, Wave};
 
 /// What is shown of the next place. It must be spent.
 #[must_use]
-#[derive(Debug)]
 pub enum Shown {
     /// Two fillings give it 0 and 1, or every filling of its sources, of which there are few, gives it one bit.
     Verdict(Verdict),

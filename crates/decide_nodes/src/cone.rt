@@ -16,7 +16,7 @@ use std::alloc::Global;
 use std::marker::Model;
 
 /// The nodes of a cone, the place that it is of being the last.
-#[derive(Debug, Drop)]
+#[derive(Drop)]
 pub struct Cone {
     nodes: Vec<Node>,
     births: Vec<bool>,

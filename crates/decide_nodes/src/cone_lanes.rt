@@ -10,7 +10,7 @@ use std::alloc::Global;
 use std::marker::Model;
 
 /// Room for the lanes of each node.
-#[derive(Debug, Drop)]
+#[derive(Drop)]
 pub struct ConeLanes {
     lane_table: Vec<LaneBits>,
 }

@@ -10,7 +10,7 @@ use design_cell::Value;
 use design_circuit::Place;
 
 /// Where a node has its bit from.
-#[derive(Debug, Drop)]
+#[derive(Drop)]
 pub enum NodeBody {
     /// It has the bit of the node at an earlier position, or its complement where the second is true.
     Carried {
@@ -26,7 +26,7 @@ pub enum NodeBody {
 }
 
 /// A place of a cone, and where it has its bit from.
-#[derive(Debug, Drop)]
+#[derive(Drop)]
 pub struct Node {
     pub place: Place,
     pub body: NodeBody,

@@ -5,7 +5,7 @@ ghost use Rattle.std.specs.Prelude.{◌≡◌, ◌<◌, ◌∷◌, ◌++◌, [],
 use std::marker::Model;
 
 /// At most 13 positions. Contracts see the list.
-#[derive(Debug, Drop)]
+#[derive(Drop)]
 pub struct Positions {
     len: usize,
     positions: [u32; 13],

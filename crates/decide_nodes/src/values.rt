@@ -9,7 +9,7 @@ use std::alloc::Global;
 use std::marker::Model;
 
 /// Values in order, up to 16 of them in the place itself. Contracts see the list.
-#[derive(Debug, Drop)]
+#[derive(Drop)]
 pub struct Values {
     list: SmallVec<Value, 16>,
 }

@@ -3,7 +3,7 @@
 use crate::pool_bits::PoolBits;
 
 /// What is drawn next.
-#[derive(Clone, Copy, Debug)]
+#[derive(Clone, Copy)]
 pub(crate) struct Draws {
     state: u64,
 }

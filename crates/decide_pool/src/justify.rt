@@ -16,7 +16,7 @@ use std::alloc::Global;
 
 /// What is known of the nodes that a node reads, by marks: argument k has the mark 2^k. Those that have 1 in the lane,
 /// those that cost nothing, as the walk met them or they are sources with 0, and those that are no sources.
-#[derive(Clone, Copy, Debug)]
+#[derive(Clone, Copy)]
 struct Marks {
     ones: u16,
     free: u16,

@@ -6,14 +6,14 @@ use crate::reads::{item_at, set_item};
 pub(crate) const PARTS: usize = 8;
 
 /// A lane: its part, and in that part its bit alone.
-#[derive(Clone, Copy, Debug)]
+#[derive(Clone, Copy)]
 pub(crate) struct PoolLane {
     pub(crate) part: usize,
     pub(crate) mark: u64,
 }
 
 /// A bit for each of 512 lanes, in eight parts of 64.
-#[derive(Clone, Copy, Debug)]
+#[derive(Clone, Copy)]
 pub(crate) struct PoolBits {
     parts: [u64; 8],
 }

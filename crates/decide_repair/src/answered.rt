@@ -13,7 +13,7 @@ use std::alloc::Global;
 use std::marker;
 
 /// What a search answered: a model, a log that refutes, or a fresh log as long as the limit.
-#[derive(Debug, Drop)]
+#[derive(Drop)]
 pub enum Answer {
     Model(Model),
     Refuted(Log),
@@ -21,7 +21,7 @@ pub enum Answer {
 }
 
 /// A query, and what a search with a limit answered.
-#[derive(Debug, Drop)]
+#[derive(Drop)]
 pub struct Answered {
     query: Cnf,
     limit: u32,

@@ -22,7 +22,7 @@ pub struct Entry {
 
 /// Tables in the order in which they came in. Contracts see them. Takes 16 bytes a table, 32 a block, and 4 for each
 /// node of the graph.
-#[derive(Debug, Drop)]
+#[derive(Drop)]
 pub struct KeptTables {
     slots: Vec<u32>,
     entries: Vec<Entry>,

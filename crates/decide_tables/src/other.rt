@@ -12,14 +12,12 @@ use design_circuit::{Filling, Place};
 use std::alloc::Global;
 
 /// A filling under which a node has another bit than under the empty one, and its bit under that.
-#[derive(Debug)]
 pub struct Other {
     pub filling: Filling,
     pub empty: bool,
 }
 
 /// What tables show of a node.
-#[derive(Debug)]
 pub enum Compared {
     /// A filling gives it another bit than the empty one.
     Other(Other),

@@ -26,7 +26,7 @@ const EARNED: usize = 8192;
 /// The tables of nodes over a list of at most 16 sources, in two ages: where the young ones are many, the aged ones go,
 /// and the young ones are aged; a table that is used is young. Takes 40 megabytes for each age at most, and 8 bytes for
 /// each node of the graph.
-#[derive(Debug, Drop)]
+#[derive(Drop)]
 pub struct SourceTables {
     list: Vec<Place>,
     young: KeptTables,

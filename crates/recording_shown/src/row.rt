@@ -15,7 +15,7 @@ use std::marker::Model;
 use wave_proved::{Wave, WaveRow};
 
 /// What each net shows at a step of a finished wave. Contracts see the history that shows the wave, and the step.
-#[derive(Debug, Drop)]
+#[derive(Drop)]
 pub struct ShownWave<'w, 'a> {
     wave: &'w Wave<'a>,
     /// The wave's row at the step, as long as it is one of the wave's.

@@ -7,7 +7,7 @@ ghost use Rattle.replay_code.specs.Steps.{HasStep};
 use design_circuit::Stim;
 
 /// The time that code has come to, and the round of the moment at that time.
-#[derive(Clone, Copy, Debug)]
+#[derive(Clone, Copy)]
 pub struct Clock {
     pub time: u64,
     pub round: u32,

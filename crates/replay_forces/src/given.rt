@@ -17,7 +17,7 @@ use design_circuit::{Circuit, Event, Source, driven_value, driver_at, spot_of, w
 use replay_history::is_same;
 
 /// What is made so far.
-#[derive(Debug, Drop)]
+#[derive(Drop)]
 pub struct MadeForces {
     /// What the driver of the net at each position gave last.
     pub row: Vec<Value>,

@@ -28,7 +28,7 @@ pub fn forces_of(alloc: Global, wave: &Wave<'_>) -> Result<Forces, Memory>
 }
 
 /// The row of a wave at a step, with the number of the step's first place. Contracts see the wave and the step.
-#[derive(Debug, Drop)]
+#[derive(Drop)]
 struct PlaceRow<'w, 'a> {
     width: usize,
     first: usize,
@@ -77,7 +77,7 @@ impl<'w, 'a> PlaceRow<'w, 'a> {
 }
 
 /// What a wave shows at the places that are written, with the rows of a step and of the two before it.
-#[derive(Debug, Drop)]
+#[derive(Drop)]
 struct Values<'w, 'a> {
     wave: &'w Wave<'a>,
     here: PlaceRow<'w, 'a>,

@@ -62,7 +62,7 @@ pub fn audit_of(alloc: Global, wave: &Wave<'_>, replayed: &History) -> Result<Au
 }
 
 /// What was seen so far.
-#[derive(Debug, Drop)]
+#[derive(Drop)]
 struct Seen {
     /// The listed places, in place order.
     listed: Vec<Found>,

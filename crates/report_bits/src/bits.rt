@@ -25,7 +25,7 @@ use wave_proved::Wave;
 
 /// The lines that are put so far, and what they are made from: what stands at the moment under way and at the one
 /// before, and the names of nets.
-#[derive(Debug, Drop)]
+#[derive(Drop)]
 pub struct BitWriter<'w, 'a> {
     pub text: Vec<u8>,
     pub here: Rows<'w, 'a>,

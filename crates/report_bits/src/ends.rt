@@ -16,7 +16,7 @@ use std::alloc::Global;
 use wave_proved::Wave;
 
 /// Which end a place has.
-#[derive(Clone, Copy, Debug, PartialEq, Eq)]
+#[derive(Clone, Copy, PartialEq, Eq)]
 pub enum End {
     /// Certain, and the history knows it.
     Known,
@@ -27,7 +27,7 @@ pub enum End {
 }
 
 /// The end at each position of a step, and how many have which.
-#[derive(Debug, Drop)]
+#[derive(Drop)]
 pub struct Ends {
     ends: Vec<End>,
     counts: Counts,

@@ -16,7 +16,7 @@ pub enum ReportLines {
 }
 
 /// A finished wave, and which lines of its bits a report has.
-#[derive(Clone, Copy, Debug)]
+#[derive(Clone, Copy)]
 pub struct WaveLines<'w, 'a> {
     pub wave: &'w Wave<'a>,
     pub lines: ReportLines,
@@ -24,7 +24,7 @@ pub struct WaveLines<'w, 'a> {
 }
 
 /// The bits of a moment whose lines are put.
-#[derive(Clone, Copy, Debug)]
+#[derive(Clone, Copy)]
 pub struct MomentBits<'m, 'w, 'a> {
     pub from: WaveLines<'w, 'a>,
     pub moment: u32,

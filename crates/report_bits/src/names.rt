@@ -11,7 +11,7 @@ use std::alloc::Global;
 use std::marker::Model;
 
 /// The written names of the nets of a design: each is made where it is put first, and kept. Contracts see the design.
-#[derive(Debug, Drop)]
+#[derive(Drop)]
 pub struct Names<'a> {
     design: &'a Design,
     names: Vec<Option<Bytes>>,

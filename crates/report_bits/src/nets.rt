@@ -14,7 +14,7 @@ const MOST_BITS: usize = 1 << 20;
 
 /// The nets of the bits of bound variables, in the order of a report, and for each net the numbers of the bits that
 /// have it. No net and no such number is as great as `room`.
-#[derive(Debug, Drop)]
+#[derive(Drop)]
 pub struct BitNets {
     pub room: usize,
     pub nets: Vec<u32>,

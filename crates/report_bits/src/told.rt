@@ -16,7 +16,7 @@ use recording_binding::BoundBit;
 use std::alloc::Global;
 
 /// What is told of a net at a step: the recorded value, and what the wave has.
-#[derive(Clone, Copy, Debug)]
+#[derive(Clone, Copy)]
 pub struct Told {
     pub net: u32,
     pub recorded: Value,

@@ -27,7 +27,7 @@ pub struct Way<'w, 'a> {
 }
 
 /// A place, and a filling that doesn't list it.
-#[derive(Debug, Drop)]
+#[derive(Drop)]
 pub struct Cause {
     pub source: Place,
     pub others: Filling,

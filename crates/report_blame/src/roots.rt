@@ -19,7 +19,7 @@ use std::alloc::Global;
 use wave_proved::Wave;
 
 /// A place, whether the way to it inverts, and its node, where lanes have one.
-#[derive(Clone, Copy, Debug)]
+#[derive(Clone, Copy)]
 pub struct Root {
     pub place: Place,
     pub inverted: bool,

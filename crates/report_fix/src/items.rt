@@ -28,7 +28,7 @@ pub struct Item {
 }
 
 /// What becomes known, with its new value, and what doesn't stay known, with its old one, in the order of a report.
-#[derive(Debug, Drop)]
+#[derive(Drop)]
 pub struct Fixed {
     pub gained: Vec<Item>,
     pub lost: Vec<Item>,

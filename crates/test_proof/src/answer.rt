@@ -3,7 +3,7 @@
 use std::fmt;
 
 /// Logs have lines from 1.
-#[derive(Clone, Copy, Debug, PartialEq, Eq)]
+#[derive(Clone, Copy, PartialEq, Eq)]
 pub(crate) enum Answer {
     Refuted,
     Fresh,
@@ -25,7 +25,7 @@ pub(crate) enum Answer {
 }
 
 /// How many formulas had each answer, of those that all assignments and the checker agree with.
-#[derive(Clone, Copy, Debug, PartialEq, Eq)]
+#[derive(Clone, Copy, PartialEq, Eq)]
 pub(crate) struct Tally {
     pub models: u64,
     pub refuted: u64,

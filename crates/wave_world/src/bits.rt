@@ -14,7 +14,7 @@ use std::alloc::Global;
 use wave_proved::Wave;
 
 /// The bits of a world so far.
-#[derive(Clone, Copy, Debug)]
+#[derive(Clone, Copy)]
 struct Bits<'b> {
     bits: &'b [bool],
 }

@@ -13,7 +13,7 @@ use std::marker::Model;
 use wave_proved::Wave;
 
 /// The bit of each place that was written in a wave, in the world of a filling.
-#[derive(Debug, Drop)]
+#[derive(Drop)]
 pub struct World {
     positions: Vec<u32>,
     bits: Vec<bool>,
