@@ -4,6 +4,7 @@ ghost use Rattle.std.specs.Prelude.{IfOk};
 ghost use Rattle.test_waves.specs.Replayed.{IsReplayed};
 ghost use Rattle.cert_condition.specs.First.{IsCertainCone};
 
+use crate::asserted::{holds, same, same_items};
 use crate::job::Job;
 use crate::waves::place_of;
 use cert_condition::{Condition, condition_of};
@@ -44,9 +45,19 @@ fn cone_of_last(alloc: Global, wave: &Wave<'_>) -> Result<Cone, Fail>
 fn check_needs(rt: &impl Abort, alloc: Global, wave: &Wave<'_>) -> Result<(), Fail> {
     let cone = cone_of_last(alloc, wave)?;
     let condition = condition_of(alloc, wave, cone, wave.limits().conflicts)?;
-    assert_eq!(rt; condition.place(), Place { step: 0, net: 2 });
-    assert_eq!(rt; condition.places(), [Place { step: 0, net: 1 }].as_slice());
-    assert_eq!(rt; condition.turns().len(), 1);
+    same(
+        rt,
+        "the place",
+        condition.place(),
+        Place { step: 0, net: 2 },
+    );
+    same_items(
+        rt,
+        "its condition",
+        condition.places(),
+        &[Place { step: 0, net: 1 }],
+    );
+    same(rt, "turns", condition.turns().len(), 1);
     Ok(())
 }
 
@@ -54,7 +65,7 @@ fn check_needs(rt: &impl Abort, alloc: Global, wave: &Wave<'_>) -> Result<(), Fa
 fn check_first_query(rt: &impl Abort, alloc: Global, wave: &Wave<'_>) -> Result<(), Fail> {
     let cone = cone_of_last(alloc, wave)?;
     let condition = Condition::new(alloc, wave, cone)?;
-    assert_eq!(rt; condition.turns_due(), 1);
+    holds(rt, "one turn is due", condition.turns_due() == 1);
     is_first_query(rt, &condition.query(alloc)?);
     Ok(())
 }
@@ -62,12 +73,12 @@ fn check_first_query(rt: &impl Abort, alloc: Global, wave: &Wave<'_>) -> Result<
 /// Its variables are `a`, `c` and `y`. For each value of `a` and `c` a clause says what `y` is, and one denies that it
 /// is 0.
 fn is_first_query(rt: &impl Abort, query: &Cnf) {
-    assert_eq!(rt; query.vars, 3);
-    assert_eq!(rt; query.clauses.as_slice().len(), 5);
+    same(rt, "variables", query.vars, 3);
+    same(rt, "clauses", query.clauses.as_slice().len(), 5);
     for clause in [[1, 2, -3], [1, -2, 3], [-1, 2, -3], [-1, -2, 3]] {
-        assert!(rt; has_clause(query, &clause), "{clause:?}");
+        holds(rt, "a clause of the gate", has_clause(query, &clause));
     }
-    assert!(rt; has_clause(query, &[3]), "the denial");
+    holds(rt, "the denial", has_clause(query, &[3]));
 }
 
 fn has_clause(query: &Cnf, literals: &[i32]) -> bool {

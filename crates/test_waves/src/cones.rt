@@ -2,6 +2,7 @@
 
 ghost use Rattle.test_waves.specs.Replayed.{IsReplayed};
 
+use crate::asserted::{holds, same, same_items};
 use crate::job::{Job, UNKNOWN};
 use crate::waves::place_of;
 use base_lists::Items;
@@ -73,14 +74,14 @@ fn cone_of_third(alloc: Global, wave: &Wave<'_>) -> Result<Cone, Fail> {
 fn is_xor(rt: &impl Abort, cone: &Cone) -> Result<(), Fail> {
     match cone.nodes() {
         [a, b, y] => {
-            assert_eq!(rt; a.place, Place { step: 0, net: 0 });
-            assert_eq!(rt; b.place, Place { step: 0, net: 1 });
-            assert_eq!(rt; y.place, Place { step: 0, net: 2 });
+            same(rt, "the first", a.place, Place { step: 0, net: 0 });
+            same(rt, "the second", b.place, Place { step: 0, net: 1 });
+            same(rt, "the third", y.place, Place { step: 0, net: 2 });
             match &y.body {
                 NodeBody::Rule { arguments, values } => {
                     let table = [Value::Zero, Value::One, Value::One, Value::Zero];
-                    assert_eq!(rt; arguments.as_slice(), [0, 1].as_slice());
-                    assert_eq!(rt; values.as_slice(), table.as_slice());
+                    same_items(rt, "its arguments", arguments.as_slice(), &[0, 1]);
+                    same_items(rt, "its table", values.as_slice(), table.as_slice());
                     Ok(())
                 }
                 NodeBody::Carried { .. } => Err(Fail::new("the place is carried")),
@@ -124,21 +125,23 @@ fn check_fillings(rt: &impl Abort, alloc: Global, cone: &Cone) -> Result<(), Fai
 }
 
 fn check_filling(rt: &impl Abort, alloc: Global, cone: &Cone, one: &Filling) -> Result<(), Fail> {
-    assert_eq!(rt; cone.sources().len(), 2);
-    assert!(rt; !cone.base());
-    assert!(rt; cone.value(alloc, one)?);
+    holds(rt, "two sources", cone.sources().len() == 2);
+    holds(rt, "0 where all are 0", !cone.base());
+    holds(rt, "1 where one is 1", cone.value(alloc, one)?);
     check_lanes(rt, alloc, cone)?;
     let chosen = cone.chosen(alloc, &[low(0b0011), low(0b0101)], 2)?;
-    assert_eq!(rt; chosen.as_slice(), one.as_slice());
+    same_items(rt, "the chosen", chosen.as_slice(), one.as_slice());
     Ok(())
 }
 
 fn check_lanes(rt: &impl Abort, alloc: Global, cone: &Cone) -> Result<(), Fail> {
-    assert_eq!(rt; cone.sources().len(), 2);
+    holds(rt, "two sources", cone.sources().len() == 2);
     let mut lane_table = ConeLanes::new(alloc, cone)?;
-    assert_eq!(rt;
+    same(
+        rt,
+        "the lanes",
         lane_table.root(cone, &[low(0b0011), low(0b0101)]),
-        low(0b0110)
+        low(0b0110),
     );
     Ok(())
 }
@@ -165,10 +168,10 @@ fn check_clauses(rt: &impl Abort, alloc: Global, cone: &Cone) -> Result<(), Fail
     let cnf = clauses(alloc, cone)?;
     match cnf.clauses.as_slice() {
         [denied, first, second] => {
-            assert_eq!(rt; cnf.vars, 2);
-            assert_eq!(rt; denied.as_slice(), [-2].as_slice());
-            assert_eq!(rt; first.as_slice(), [-1, 2].as_slice());
-            assert_eq!(rt; second.as_slice(), [1, 2].as_slice());
+            same(rt, "variables", cnf.vars, 2);
+            same_items(rt, "the denial", denied.as_slice(), &[-2]);
+            same_items(rt, "the first clause", first.as_slice(), &[-1, 2]);
+            same_items(rt, "the second clause", second.as_slice(), &[1, 2]);
             Ok(())
         }
         _ => Err(Fail::new("there aren't three clauses")),
@@ -196,8 +199,12 @@ fn choices_of_and_and_parity(rt: HostRuntime) -> Result<(), Fail> {
     let odd = minimal_choices(rt.alloc(), &parity, true)?;
     let first = Choice { care: 1, bits: 0 };
     let second = Choice { care: 2, bits: 0 };
-    assert_eq!(rt; and.as_slice(), [first, second].as_slice());
-    assert_eq!(rt; odd.len(), 4);
-    assert!(rt; odd.iter().all(|choice| choice.care == 7));
+    same_items(&rt, "choices of and", and.as_slice(), &[first, second]);
+    same(&rt, "choices of parity", odd.len(), 4);
+    holds(
+        &rt,
+        "of all three",
+        odd.iter().all(|choice| choice.care == 7),
+    );
     Ok(())
 }

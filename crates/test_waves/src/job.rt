@@ -6,6 +6,7 @@ ghost use Rattle.cmd_job.specs.Netlist.{FitsNetlist};
 ghost use Rattle.cmd_job.specs.Recorded.{FitsRecorded};
 ghost use Rattle.wave_proved.specs.Contents.{IsFinished};
 
+use crate::asserted::same_items;
 use base_lists::Items;
 use cmd_job::{
     CompareRefusal, Netlist, PLACES, Recorded, Rules, Settings, circuit_of, put_compare_line,
@@ -146,9 +147,7 @@ fn a_disagreement_has_its_line(rt: HostRuntime) -> Result<(), Fail> {
     };
     let mut line = Vec::new(alloc);
     put_compare_line(alloc, &mut line, &refusal)?;
-    assert_eq!(rt;
-        line.as_slice(),
-        b"refused: disagrees #10 z recorded 1 replayed 0".as_slice()
-    );
+    let want = b"refused: disagrees #10 z recorded 1 replayed 0";
+    same_items(&rt, "the line", line.as_slice(), want);
     Ok(())
 }

@@ -7,6 +7,7 @@ ghost use Rattle.law_model.specs.Cone.{is_carried};
 ghost use Rattle.wave_proved.specs.Contents.{class_in, next_number};
 ghost use Rattle.wave_proved.specs.Token.{HasNext};
 
+use crate::asserted::{holds, same, same_items};
 use crate::job::{Job, ONE_INPUT, UNKNOWN};
 use decide_lanes::Lanes;
 use design_circuit::{Filling, Place};
@@ -61,9 +62,14 @@ fn check_word(rt: &impl Abort, alloc: Global, wave: &Wave<'_>) -> Result<(), Fai
     let lanes = looked(alloc, wave)?;
     'lanes: for lane in 0u32..64 {
         let filling = listed(alloc, wave, &lanes, lane)?;
-        assert_eq!(rt; filling.as_slice().len() as u64, WORD >> lane & 1);
+        same(
+            rt,
+            "sources of a lane",
+            filling.as_slice().len() as u64,
+            WORD >> lane & 1,
+        );
     }
-    assert!(rt; lanes.pair(wave).is_some());
+    holds(rt, "two lanes differ", lanes.pair(wave).is_some());
     Ok(())
 }
 
@@ -87,7 +93,7 @@ fn check_none(rt: &impl Abort, alloc: Global, wave: &Wave<'_>) -> Result<(), Fai
     match wave.class() {
         Class::Local(_) => {
             let lanes = looked(alloc, wave)?;
-            assert!(rt; lanes.pair(wave).is_none());
+            holds(rt, "no two lanes differ", lanes.pair(wave).is_none());
             Ok(())
         }
         _ => Err(Fail::new("the place isn't a Local place")),
@@ -116,7 +122,12 @@ fn check_lists(rt: &impl Abort, alloc: Global, wave: &Wave<'_>) -> Result<(), Fa
         Class::Line => {
             let lanes = looked(alloc, wave)?;
             let filling = listed(alloc, wave, &lanes, 8)?;
-            assert_eq!(rt; filling.as_slice(), [Place { step: 0, net: 2 }].as_slice());
+            same_items(
+                rt,
+                "the sources",
+                filling.as_slice(),
+                &[Place { step: 0, net: 2 }],
+            );
             Ok(())
         }
         _ => Err(Fail::new("the place isn't a Line place")),

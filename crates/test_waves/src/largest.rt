@@ -2,6 +2,7 @@
 
 ghost use Rattle.design_circuit.specs.Design.{FitsDesign};
 
+use crate::asserted::{holds, same};
 use base_lists::{put, put_number};
 use cmd_job::{PLACES, read_netlist};
 use design_circuit::{Bytes, Design};
@@ -50,15 +51,20 @@ fn bound(alloc: Global, design: &Design, moments: u64) -> Result<Result<Binding,
 fn check_bound(rt: &impl Abort, alloc: Global, design: &Design) -> Result<(), Fail>
     requires { FitsDesign design.now }
 {
-    assert_eq!(rt; design.nets.as_slice().len(), 1024);
+    holds(rt, "the nets", design.nets.as_slice().len() == 1024);
     match bound(alloc, design, 8192)? {
-        Ok(binding) => assert_eq!(rt; binding.bound.as_slice().len(), 1),
+        Ok(binding) => same(rt, "variables", binding.bound.as_slice().len(), 1),
         Err(_) => return Err(Fail::new("2^27 places are refused")),
     }
     match bound(alloc, design, 8193)? {
         Ok(_) => Err(Fail::new("more than 2^27 places are bound")),
         Err(refusal) => {
-            assert_eq!(rt; refusal, BindErr::TooLarge { places: 134234112 });
+            same(
+                rt,
+                "the refusal",
+                refusal,
+                BindErr::TooLarge { places: 134234112 },
+            );
             Ok(())
         }
     }

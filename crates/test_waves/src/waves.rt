@@ -6,6 +6,7 @@ ghost use Rattle.design_circuit.specs.Fits.{place_at};
 ghost use Rattle.recording_binding.specs.Binding.{FitsBinding};
 ghost use Rattle.wave_proved.specs.Contents.{IsFinished, IsWritten, job};
 
+use crate::asserted::{holds, same, same_items};
 use crate::job::{Job, ONE_INPUT, UNKNOWN};
 use base_lists::Items;
 use design_cell::Value;
@@ -37,7 +38,7 @@ pub fn place_of(wave: &Wave<'_>, number: usize) -> Place
 
 /// Compares the one place, which is free, in the worlds of its two fillings.
 fn check_worlds(rt: &impl Abort, alloc: Global, wave: &Wave<'_>) -> Result<(), Fail> {
-    assert_eq!(rt; wave.count(), 1);
+    holds(rt, "one place", wave.count() == 1);
     check_one(rt, alloc, wave, place_of(wave, 0))?;
     check_zero(rt, alloc, wave, place_of(wave, 0))
 }
@@ -46,7 +47,7 @@ fn check_one(rt: &impl Abort, alloc: Global, wave: &Wave<'_>, place: Place) -> R
     requires { IsWritten wave.now place }
 {
     let one = fill(alloc, wave, &Items::from_vec([place].to_vec(alloc)?))?;
-    assert!(rt; one.value(place));
+    holds(rt, "the input is 1", one.value(place));
     Ok(())
 }
 
@@ -54,7 +55,7 @@ fn check_zero(rt: &impl Abort, alloc: Global, wave: &Wave<'_>, place: Place) -> 
     requires { IsWritten wave.now place }
 {
     let zero = fill(alloc, wave, &Items::from_vec(Vec::new(alloc)))?;
-    assert!(rt; !zero.value(place));
+    holds(rt, "the input is 0", !zero.value(place));
     Ok(())
 }
 
@@ -73,24 +74,38 @@ fn a_free_place_has_its_filling(rt: HostRuntime) -> Result<(), Fail> {
 
 /// Compares the fillings that show the second place unknown, and the third settled.
 fn check_pairs(rt: &impl Abort, alloc: Global, wave: &Wave<'_>) -> Result<(), Fail> {
-    assert_eq!(rt; wave.count(), 3);
+    holds(rt, "three places", wave.count() == 3);
     match wave.pair_of(alloc, place_of(wave, 1))? {
         Some((zero, one)) => {
             let free = place_of(wave, 0);
-            assert_eq!(rt; zero.as_slice(), [free].as_slice(), "its complement is 1");
-            assert!(rt; one.as_slice().is_empty());
+            same_items(rt, "its complement is 1", zero.as_slice(), &[free]);
+            holds(rt, "its complement is 0", one.as_slice().is_empty());
         }
         None => return Err(Fail::new("the complement is unknown")),
     }
-    assert!(rt; wave.pair_of(alloc, place_of(wave, 2))?.is_none());
+    holds(
+        rt,
+        "the third has no pair",
+        wave.pair_of(alloc, place_of(wave, 2))?.is_none(),
+    );
     Ok(())
 }
 
 /// Compares what the places show: the second is unknown, the third settled.
 fn check_values(rt: &impl Abort, wave: &Wave<'_>) {
-    assert_eq!(rt; wave.count(), 3);
-    assert_eq!(rt; wave.value(place_of(wave, 1)), Value::X, "unknown");
-    assert_eq!(rt; wave.value(place_of(wave, 2)), Value::Zero, "settled");
+    holds(rt, "three places", wave.count() == 3);
+    same(
+        rt,
+        "the second is unknown",
+        wave.value(place_of(wave, 1)),
+        Value::X,
+    );
+    same(
+        rt,
+        "the third is settled",
+        wave.value(place_of(wave, 2)),
+        Value::Zero,
+    );
 }
 
 fn check_complement(rt: &impl Abort, alloc: Global, wave: &Wave<'_>) -> Result<(), Fail> {
@@ -121,11 +136,11 @@ fn check_report(
     requires binding { FitsBinding wave.now.design binding.now }
 {
     let bits = bit_lines(alloc, wave, binding, ReportLines::All)?;
-    assert_eq!(rt; bits.as_slice(), b"#0 a x unknown\n".as_slice());
+    same_items(rt, "its line", bits.as_slice(), b"#0 a x unknown\n");
     let head = head_lines(alloc, wave, 2)?;
     let want =
         b"places 1 moments 1 rounds 1\nknown 0 repaired 0 unknown 1 undecided 0\nforces 2 lines 0\n";
-    assert_eq!(rt; head.as_slice(), want.as_slice());
+    same_items(rt, "the head", head.as_slice(), want.as_slice());
     Ok(())
 }
 

@@ -2,6 +2,7 @@
 
 ghost use Rattle.std.specs.Prelude.{◌≡◌, IfOk, length};
 
+use crate::asserted::same;
 use crate::designs::nets::{net, two_moments};
 use base_lists::Items;
 use design_cell::Value;
@@ -30,17 +31,17 @@ fn check_set(rt: &impl Abort, writer: &mut HistoryWriter) -> Result<(), Fail>
 {
     let set = Place { step: 1, net: 0 };
     let other = Place { step: 3, net: 1 };
-    assert_eq!(rt; writer.shown(set), Value::X, "blank");
-    assert_eq!(rt; writer.kept(other), Value::X, "blank");
+    same(rt, "shown at first", writer.shown(set), Value::X);
+    same(rt, "kept at first", writer.kept(other), Value::X);
     for (shown, kept) in [
         (Value::Zero, Value::One),
         (Value::Z, Value::X),
         (Value::One, Value::Z),
     ] {
         writer.set(set, shown, kept)?;
-        assert_eq!(rt; writer.shown(set), shown, "{shown:?} and {kept:?}");
-        assert_eq!(rt; writer.kept(set), kept, "{shown:?} and {kept:?}");
-        assert_eq!(rt; writer.shown(other), Value::X, "another place");
+        same(rt, "shown", writer.shown(set), shown);
+        same(rt, "kept", writer.kept(set), kept);
+        same(rt, "another place", writer.shown(other), Value::X);
     }
     Ok(())
 }

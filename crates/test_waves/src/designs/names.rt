@@ -2,6 +2,7 @@
 
 ghost use Rattle.std.specs.Prelude.{◌≡◌, IfOk, length};
 
+use crate::asserted::same_items;
 use crate::designs::nets::{one_net, part};
 use design_circuit::{Design, NamePart};
 use std::alloc::{AllocError, Global};
@@ -25,6 +26,6 @@ fn design(alloc: Global) -> Result<Design, AllocError>
 fn names_are_written(rt: HostRuntime) -> Result<(), Fail> {
     let design = design(rt.alloc())?;
     let text = design.written_name(rt.alloc(), 0)?;
-    assert_eq!(rt; text.as_slice(), b"\\u/1 .a[3]".as_slice());
+    same_items(&rt, "the name", text.as_slice(), b"\\u/1 .a[3]");
     Ok(())
 }

@@ -4,6 +4,7 @@ ghost use Rattle.std.specs.Prelude.{◌≡◌, ◌∷◌, [], IfOk, length};
 ghost use Rattle.design_circuit.specs.declared.design.Design.{Design as a_design};
 ghost use Rattle.recording_binding.specs.Binding.{FitsBinding};
 
+use crate::asserted::same_items;
 use crate::designs::nets::{one_net, part, two_moments};
 use base_lists::Items;
 use design_cell::Value;
@@ -70,7 +71,7 @@ fn check_text(
     let want = b"$version xrepair $end\n$timescale 1ns $end\n$scope module top $end\n\
         $var wire 1 ! \\a-b $end\n$upscope $end\n$enddefinitions $end\n\
         #0\n$dumpvars\nx!\n$end\n#10\n1!\n";
-    assert_eq!(rt; text.as_slice(), want.as_slice());
+    same_items(rt, "the text", text.as_slice(), want.as_slice());
     Ok(())
 }
 

@@ -1,5 +1,6 @@
 //! What a cell and a register of a design give.
 
+use crate::asserted::{holds, same};
 use cmd_job::read_netlist;
 use design_cell::{Gate, Value};
 use design_circuit::{Design, Driver, Table};
@@ -15,7 +16,7 @@ fn check_cell(rt: &impl Abort, design: &Design, pins: [Value; 2], want: Value) -
     match design.nets.as_slice() {
         [_, _, _, y] => match &y.driver {
             Driver::Cell(Table::Gate(Gate::And), _) => {
-                assert_eq!(rt; design.cell_value(3, &pins), want, "{pins:?}");
+                same(rt, "the cell", design.cell_value(3, &pins), want);
                 Ok(())
             }
             _ => Err(Fail::new("it isn't an and gate")),
@@ -35,9 +36,13 @@ fn check_register(
     match (design.nets.as_slice(), design.udps.as_slice()) {
         ([_, _, q, _], [dff]) => match &q.driver {
             Driver::Register(latching) => {
-                assert!(rt; dff.sequential() && dff.inputs() == 2 && latching.udp == 0);
+                holds(
+                    rt,
+                    "a register",
+                    dff.sequential() && dff.inputs() == 2 && latching.udp == 0,
+                );
                 let kept = design.register_value(2, &old, &new, Value::X);
-                assert_eq!(rt; kept, want, "{old:?} {new:?}");
+                same(rt, "the register", kept, want);
                 Ok(())
             }
             _ => Err(Fail::new("it isn't a register")),

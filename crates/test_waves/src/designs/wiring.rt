@@ -7,6 +7,7 @@ ghost use Rattle.design_circuit.specs.declared.design.Pin.TheVariants as pin;
 ghost use Rattle.design_circuit.specs.declared.design.Table.TheVariants as table;
 ghost use Rattle.design_cell.specs.declared.gate.Gate.TheVariants as gate;
 
+use crate::asserted::{same, same_items};
 use crate::designs::nets::{net, swapped};
 use base_lists::Items;
 use design_cell::Gate;
@@ -40,10 +41,15 @@ fn check_wiring(rt: &impl Abort, alloc: Global, design: &Design, order: &Order) 
     requires order { order.now ≡ 1 ∷ 0 ∷ [] }
 {
     let wiring = Wiring::of(alloc, design, order)?;
-    assert_eq!(rt; wiring.kind(0), Kind::Undriven);
-    assert_eq!(rt; wiring.kind(1), Kind::Gate(Gate::And));
-    assert_eq!(rt; wiring.pins(0).len(), 0);
-    assert_eq!(rt; wiring.pins(1), [Pin::Net(0), Pin::Dead].as_slice());
+    same(rt, "the input", wiring.kind(0), Kind::Undriven);
+    same(rt, "the gate", wiring.kind(1), Kind::Gate(Gate::And));
+    same(rt, "pins of the input", wiring.pins(0).len(), 0);
+    same_items(
+        rt,
+        "pins of the gate",
+        wiring.pins(1),
+        &[Pin::Net(0), Pin::Dead],
+    );
     Ok(())
 }
 
