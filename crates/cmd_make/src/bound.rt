@@ -6,7 +6,7 @@ ghost use Rattle.cmd_make.specs.Recording as spec;
 
 use base_lists::{Items, Memory};
 use design_circuit::{Bytes, Design};
-use recording_binding::{Binding, Bound};
+use recording_binding::{Binding, Bound, NetNumbers};
 use std::alloc::Global;
 
 /// Each net as a variable of its own, in number order. Takes some 150 bytes for each.
@@ -32,7 +32,7 @@ fn net_bound(alloc: Global, design: &Design, net: u32) -> Result<Bound, Memory>
     let bits = vec![in alloc; net; 1]?;
     Ok(Bound {
         variable: net,
-        bits: Items::from_vec(bits),
+        bits: NetNumbers::from_vec(bits),
         path: made_path(alloc)?,
         range: range_of(design, net),
     })

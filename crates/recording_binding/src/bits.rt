@@ -4,7 +4,8 @@ ghost use Rattle.std.specs.Prelude.{◌≡◌, ◌<◌, ◌≤◌, All, IfOk, le
 ghost use Rattle.recording_binding.specs.Naming.{index_of};
 ghost use Rattle.recording_binding.specs.Bits as spec;
 
-use base_lists::{Items, Memory};
+use crate::net_numbers::NetNumbers;
+use base_lists::Memory;
 use design_circuit::Design;
 use std::alloc::Global;
 
@@ -16,7 +17,7 @@ pub enum Matched {
     /// Its width or its range isn't that of the nets that it names.
     Differs,
     /// The nets that are its bits, from the left.
-    Bits(Items<u32>),
+    Bits(NetNumbers),
 }
 
 /// What a variable of this range and width comes to, where these nets have its name.
@@ -45,7 +46,7 @@ fn match_whole(alloc: Global, nets: &[u32], width: u32) -> Result<Matched, Memor
     ensures { IfOk result (λ m. m ≡ spec.whole_of nets.now width) }
 {
     if nets.len() == width as usize {
-        Ok(Matched::Bits(Items::from_vec(nets.to_vec(alloc)?)))
+        Ok(Matched::Bits(NetNumbers::from_vec(nets.to_vec(alloc)?)))
     } else {
         Ok(Matched::Differs)
     }
@@ -66,7 +67,7 @@ fn match_part(
 {
     let bits = front_of(rest_from(design, nets, m), width as usize);
     if ends_at(design, l, width, bits) {
-        Ok(Matched::Bits(Items::from_vec(bits.to_vec(alloc)?)))
+        Ok(Matched::Bits(NetNumbers::from_vec(bits.to_vec(alloc)?)))
     } else {
         Ok(Matched::Differs)
     }

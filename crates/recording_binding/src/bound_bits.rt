@@ -20,7 +20,7 @@ pub struct BoundBit {
 }
 
 /// A walk over the bits of bound variables.
-#[derive(Debug, Drop)]
+#[derive(Drop)]
 pub struct BoundBits<'a> {
     bound: &'a [Bound],
     moment: u32,

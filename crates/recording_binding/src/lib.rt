@@ -12,6 +12,7 @@ mod job_design;
 mod laws;
 mod matcher;
 mod naming;
+mod net_numbers;
 mod originals;
 mod refusal;
 mod rule;
@@ -29,6 +30,7 @@ pub use laws::{
     bits_are_there, bits_stand_in_order, job_designs_fit, one_stimulus, originals_are_copied,
 };
 pub use naming::{Names, put_text};
+pub use net_numbers::NetNumbers;
 pub use refusal::BindErr;
 pub use rule::UndrivenRule;
 pub use stimulus::stim_of;

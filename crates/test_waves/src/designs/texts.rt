@@ -9,7 +9,7 @@ use crate::designs::nets::{one_net, part, two_moments};
 use base_lists::Items;
 use design_cell::Value;
 use design_circuit::{Bytes, Design, HistoryWriter, Place, Stim};
-use recording_binding::{Binding, Bound};
+use recording_binding::{Binding, Bound, NetNumbers};
 use recording_writer::vcd_text;
 use std::alloc::{AllocError, Global};
 use std::process::Abort;
@@ -22,7 +22,7 @@ fn variable(alloc: Global) -> Result<Bound, AllocError>
     let path = vec![in alloc; Bytes::from_vec(b"top".to_vec(alloc)?)]?;
     Ok(Bound {
         variable: 0,
-        bits: Items::from_vec([0].to_vec(alloc)?),
+        bits: NetNumbers::from_vec([0].to_vec(alloc)?),
         path: Items::from_vec(path),
         range: None,
     })
